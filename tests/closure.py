@@ -4,6 +4,7 @@
     tests/closure.py CALL [CLAUSE..]                  a line a file with its definitions and their lines, and the sums
     tests/closure.py --list CALL [CLAUSE..]           each definition, with how many lines it has and the line where it stands
     tests/closure.py --clauses CALL..                 the sums alone, a line for each clause
+    tests/closure.py --table                          the table of docs/PROVED.md: what there is to believe of the calls that it names
     tests/closure.py --why NAME CALL [CLAUSE..]       by which definitions one of this name is reached
     tests/closure.py --without NAME CALL [CLAUSE..]   what is left where definitions of this name (or FILE.NAME) are not followed
     tests/closure.py --unused                         the definitions of specs/ that no public clause of any crate reaches
@@ -29,6 +30,22 @@ from lib.repository import STD, Repository, crate_of  # noqa: E402
 
 ROOT = Path(__file__).resolve().parent.parent
 PROVED = ("invariant", "coded")
+# The rows of docs/PROVED.md: a call, what the table says behind it, and its clauses, of which the empty one is all together.
+ROWS = (
+    ("mcy_top::mcy_main", ": that a PASS is true", "pass"),
+    ("mcy_top::mcy_main", "", "", "answer", "life", "complete", "demo", "baseline"),
+    ("file_calls::call_on_file", ": that a PASS in a file is true", "pass"),
+    ("file_calls::call_on_file", "", ""),
+    ("row_laws::rows_tell_of_all_runs", "", "pass"),
+    ("project_sources::read_netlist", ": from bytes", "elaborates", "netlist"),
+    ("elab_hier::elaborate", ": from modules", "ok", "accepted", "refused"),
+    ("tb_reading::read_bench", "", "built"),
+    ("tb_runner::transcript", "", ""),
+    ("tb_runner::SimJob::turn", "", "told"),
+    ("equiv_test::EqJob::new", "", "refused"),
+    ("equiv_test::EqJob::turn", "", "told"),
+    ("mutation_sites::mutate", "", ""),
+)
 
 
 class Closure:
@@ -151,6 +168,17 @@ def print_clauses(naming, calls):
             print(" ".join(f"{it:6}" for it in numbers) + f"  {call} {label or ('all' if len(labels) > 1 else '')}")
 
 
+def print_table(naming):
+    for call, about, *labels in ROWS:
+        crate, _, name = call.partition("::")
+        head = f"`{name}` of `{crate}`{about}"
+        for label in labels:
+            closure, _ = closure_of(naming, call, [label] if label else [])
+            numbers = " | ".join(f"{it:,}" for it in closure.sums()[:4])
+            print(f"| {head} | {f'`{label}`' if label else 'all'} | {numbers} |".replace("|  |", "| |"))
+            head = ""
+
+
 def print_ways(closure, name):
     found = [it for it in closure.items if it[0] != "kit" and it[-1] == name]
     for item in found:
@@ -191,7 +219,7 @@ def print_unused(naming, calls):
 def main():
     signal.signal(signal.SIGPIPE, signal.SIG_DFL)
     parser = argparse.ArgumentParser(description=__doc__, formatter_class=argparse.RawDescriptionHelpFormatter, usage=argparse.SUPPRESS)
-    for flag in ("--list", "--clauses", "--unused"):
+    for flag in ("--list", "--clauses", "--table", "--unused"):
         parser.add_argument(flag, action="store_true", help=argparse.SUPPRESS)
     for option in ("--why", "--without"):
         parser.add_argument(option, metavar="NAME", action="append", default=[], help=argparse.SUPPRESS)
@@ -200,6 +228,8 @@ def main():
     naming = Naming(Repository(ROOT))
     if asked.unused:
         print_unused(naming, asked.rest)
+    elif asked.table:
+        print_table(naming)
     elif not asked.rest:
         sys.exit(__doc__)
     elif asked.clauses:

@@ -1,12 +1,6 @@
 -- A simulation that is driven cycle by cycle.
-use Rattle.std.proofs.Common.{◌≡◌, ◌≢◌, ◌∙◌, arith, ℕ, ◌+◌, ◌-◌, ◌<◌, ◌≤◌, List, ap, subst}
-use Rattle.std.specs.Prelude.{max}
-use Rattle.tb_machine.specs.Simulations.{phases_of}
-use Rattle.tb_turns.specs.declared.verdict.SimVerdict.{SimVerdict}
+use Rattle.campaign_baseline.proofs.Common.{◌≡◌, ◌≢◌, ◌∙◌, arith, ℕ, ◌+◌, ◌-◌, ◌<◌, ◌≤◌, List, ap, subst, max, phases_of, SimVerdict, new_job, Job, IsSameJob, Simulated, Ends, GoesOn, Says, EndsIn}
 use Rattle.tb_turns.specs.Reached.{phases_after}
-use Rattle.tb_runner.specs.Jobs.{new_job, Job, IsSameJob}
-use Rattle.tb_runner.specs.Simulated.{Simulated, Ends, GoesOn, Says}
-use Rattle.campaign_run.specs.Baselines.{EndsIn}
 
 -- the phases behind a cycle
 pub one_more : (phases cycle : ℕ) → 1 ≤ cycle → max phases 1 ≡ phases_of (cycle - 1) → phases_after phases 1 ≡ phases_of cycle

@@ -1,9 +1,5 @@
 -- The line of a baseline that does not pass.
-use Rattle.std.proofs.Common.{◌≡◌, ◌≢◌, ◌∙◌, List, ℕ, ◌++◌, refl, sym, ap}
-use Rattle.std.proofs.lemmas.List.{append-nil}
-use Rattle.tb_turns.specs.declared.verdict.SimVerdict.{SimVerdict}
-use Rattle.tb_turns.specs.declared.verdict.SimVerdict.TheVariants.{Pass, Fail, Hang}
-use Rattle.campaign_run.specs.declared.baseline.Baseline.{Baseline}
+use Rattle.campaign_baseline.proofs.Common.{◌≡◌, ◌≢◌, ◌∙◌, List, ℕ, ◌++◌, refl, sym, ap, append-nil, SimVerdict, Pass, Fail, Hang, Baseline}
 use Rattle.campaign_baseline.specs.Lines.{baseline_line, failing_line, unless_pass}
 
 told_unless : (v : SimVerdict) (line : List ℕ) → v ≢ Pass → unless_pass v line ≡ line

@@ -1,8 +1,8 @@
+mod Common
 pub mod Cycles
 pub mod Failing
 pub mod Listing
 pub mod OneEnd
 pub mod OneList
 pub mod Runnable
-pub mod Words
 pub mod Limiting

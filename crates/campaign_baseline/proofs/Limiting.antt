@@ -1,15 +1,7 @@
 -- The limit of cycles that follows from baselines.
-use Rattle.std.proofs.Common.{◌≡◌, ◌∙◌, inl, inr, ℕ, Bool, true, false, List, length, refl, sym, ap, subst, if◌then◌else◌}
-use Rattle.std.proofs.lemmas.Bool.{cases_Bool}
-use Rattle.std.proofs.lemmas.List.Elements.{All-weaker}
-use Rattle.campaign_plan.specs.declared.prepared.Prepared.{Prepared}
-use Rattle.campaign_plan.specs.Campaigns.{IsPlan}
-use Rattle.campaign_plan.specs.Laws.{IsSame}
+use Rattle.campaign_baseline.proofs.Common.{◌≡◌, ◌∙◌, inl, inr, ℕ, Bool, true, false, List, length, refl, sym, ap, subst, if◌then◌else◌, cases_Bool, All-weaker, Prepared, IsPlan, IsSame, plan_once}
+use Rattle.campaign_baseline.proofs.Common.{Baseline, auto_cycles, AllPass, AreBaselines, IsBaseline, BaselinesAreOne}
 use Rattle.campaign_plan.proofs.Limits.{plan_limited}
-use Rattle.campaign_plan.proofs.OneCampaign.{plan_once}
-use Rattle.campaign_run.specs.declared.baseline.Baseline.{Baseline}
-use Rattle.campaign_run.specs.Baselines.{auto_cycles, AllPass, AreBaselines, IsBaseline}
-use Rattle.campaign_baseline.specs.Laws.{BaselinesAreOne}
 use Rattle.campaign_run.specs.Limits.{baseline_limit, cycles_by, AsksBaselines, FailsBaselines, HasBaselines, HasItsLimit, IsTestable, IsLimitOf}
 
 -- a choice that is known

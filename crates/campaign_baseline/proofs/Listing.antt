@@ -1,14 +1,6 @@
 -- One test more.
-use Rattle.std.proofs.Common.{◌≡◌, ◌∙◌, ℕ, ◌+◌, subst, List, [], ◌∷◌, ◌++◌, slice_get, Option, Some, refl, sym, ap, add-one}
-use Rattle.std.proofs.lemmas.List.{append-nil, map-append}
-use Rattle.std.proofs.lemmas.List.Elements.{All-push}
-use Rattle.tb_bench.specs.declared.parts.Parts.{Parts}
-use Rattle.tb_runner.specs.Simulated.{Says}
-use Rattle.campaign_plan.specs.declared.prepared.Prepared.{Prepared}
-use Rattle.campaign_plan.specs.declared.trial.Trial.{Trial}
-use Rattle.campaign_plan.specs.declared.trial.Trial.TheVariants.{Equality, Simulation}
-use Rattle.campaign_run.specs.declared.baseline.Baseline.{Baseline}
-use Rattle.campaign_run.specs.Baselines.{design_run, sim_at, sims_below, AreBaselines, EndsIn, IsBaseline}
+use Rattle.campaign_baseline.proofs.Common.{◌≡◌, ◌∙◌, ℕ, ◌+◌, subst, List, [], ◌∷◌, ◌++◌, slice_get, Option, Some, refl, sym, ap, add-one, append-nil, map-append, All-push, Parts, Says, Prepared}
+use Rattle.campaign_baseline.proofs.Common.{Trial, Equality, Simulation, Baseline, design_run, sim_at, sims_below, AreBaselines, EndsIn, IsBaseline}
 
 -- what its bench says of the design is its baseline
 pub baseline_is : (c : Prepared) (limit t : ℕ) (b : Baseline) (bench : Parts) (pass fail p f : List ℕ) → slice_get c.trials t ≡ Some (Simulation bench pass fail) → b.test ≡ t → p ≡ pass → f ≡ fail → Says (design_run c bench) limit p f b.verdict → EndsIn (design_run c bench) limit b.cycles → IsBaseline c limit b

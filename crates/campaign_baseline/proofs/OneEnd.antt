@@ -1,9 +1,6 @@
 -- A simulation ends in one cycle, where the phase behind some that go on has one ending.
-use Rattle.std.proofs.Common.{◌≡◌, ◌≢◌, ◌⊎◌, inl, inr, arith, ℕ, ◌-◌, ◌<◌, ◌≤◌, sym, ◌∙◌}
-use Rattle.std.specs.Prelude.{max}
-use Rattle.std.proofs.lemmas.Bool.{cases_order}
+use Rattle.campaign_baseline.proofs.Common.{◌≡◌, ◌≢◌, ◌⊎◌, inl, inr, arith, ℕ, ◌-◌, ◌<◌, ◌≤◌, sym, ◌∙◌, max, cases_order, Reaches, phases_of}
 use Rattle.tb_machine.specs.Phases.{Ending, Going, Finish, Limit, IsPhase, Setting, State}
-use Rattle.tb_machine.specs.Simulations.{Reaches, phases_of}
 use Rattle.tb_turns.specs.Reached.{MeetsEnd}
 
 -- it goes on through all cycles before this one, from 1, and has ended by its end

@@ -1,33 +1,19 @@
 -- A project and its sources have one list of baselines.
-use Rattle.std.proofs.Common.{◌≡◌, ◌∙◌, ℕ, zero, suc, List, [], ◌∷◌, ◌++◌, length, map, slice_get, Option, None, Some, refl, sym, ap, subst}
+use Rattle.campaign_baseline.proofs.Common.{◌≡◌, ◌∙◌, ℕ, zero, suc, List, [], ◌∷◌, ◌++◌, length, map, slice_get, Option, None, Some, refl, sym, ap, subst, All-head, All-tail, Outcome, phases_of}
+use Rattle.campaign_baseline.proofs.Common.{Parts, FitsDesign, IsRunnable, SimVerdict, Says, Simulated, Prepared, Trial, Equality, Simulation, IsPlan, AreAlike, IsSame, SameTests, plan_fits}
+use Rattle.campaign_baseline.proofs.Common.{plan_trials, plan_once, Baseline, design_run, sim_at, sims_below, EndsIn, IsBaseline, BaselinesAreOne}
 use Rattle.std.specs.List.{All}
-use Rattle.std.proofs.lemmas.List.Elements.{All-head, All-tail}
 use Rattle.netlist_core.specs.Checked.{Plan}
 use Rattle.netlist_core.specs.declared.raw.RawNetlist.{RawNetlist}
 use Rattle.tb_machine.specs.Nodes.{tree_of}
 use Rattle.tb_machine.specs.Phases.{Setting, State}
-use Rattle.tb_machine.specs.Simulations.{Outcome, phases_of}
-use Rattle.tb_bench.specs.declared.parts.Parts.{Parts}
-use Rattle.tb_bench.specs.Runnable.{FitsDesign, IsRunnable}
 use Rattle.tb_bench.specs.Settings.{setting_of, start_of}
 use Rattle.tb_process.specs.Running.{generator}
-use Rattle.tb_turns.specs.declared.verdict.SimVerdict.{SimVerdict}
 use Rattle.tb_turns.specs.Verdicts.{IsVerdict, IsWord}
-use Rattle.tb_runner.specs.Simulated.{Says, Simulated}
 use Rattle.tb_once.specs.Laws.{BenchesEndOnce, BenchesHaveOneOutcome}
-use Rattle.campaign_plan.specs.declared.prepared.Prepared.{Prepared}
-use Rattle.campaign_plan.specs.declared.trial.Trial.{Trial}
-use Rattle.campaign_plan.specs.declared.trial.Trial.TheVariants.{Equality, Simulation}
-use Rattle.campaign_plan.specs.Campaigns.{IsPlan}
-use Rattle.campaign_plan.specs.Laws.{AreAlike, IsSame, SameTests}
-use Rattle.campaign_plan.proofs.Fitted.{plan_fits, plan_trials}
-use Rattle.campaign_plan.proofs.OneCampaign.{plan_once}
-use Rattle.campaign_run.specs.declared.baseline.Baseline.{Baseline}
-use Rattle.campaign_run.specs.Baselines.{design_run, sim_at, sims_below, EndsIn, IsBaseline}
-use Rattle.campaign_baseline.specs.Laws.{BaselinesAreOne}
 use Rattle.campaign_baseline.proofs.OneEnd.{cycle_once, EndsAt, GoesOnOnce}
 use Rattle.campaign_baseline.proofs.Runnable.{plan_runs}
-use Rattle.campaign_baseline.proofs.Words.{word_once}
+use Rattle.tb_turns.proofs.Words.{one_word}
 
 -- One simulation.
 
@@ -68,7 +54,7 @@ module _ (outcomes : BenchesHaveOneOutcome) (ends : BenchesEndOnce) where
       let two : Told g start limit pass fail y m = told_by_other (design_run d b) limit pass fail y m a alike other_says other_takes in
       let outcome : one.says.outcome ≡ two.says.outcome = outcomes b (tree_of alike.others) made (generator d.word_seed) (phases_of limit) one.says.outcome two.says.outcome runs run.2 fits one.says.simulated two.says.simulated in
       let once : GoesOnOnce g start = λ k before t u v e less all some phase. ends b (tree_of alike.others) made (generator d.word_seed) k before t u v e runs run.2 fits less all some phase in
-      (word_once two.says.outcome pass fail x y (subst (λ (o : Outcome). IsWord o pass fail x) outcome one.says.word) two.says.word, cycle_once g start limit n m once one.takes two.takes)
+      (one_word two.says.outcome pass fail x y (subst (λ (o : Outcome). IsWord o pass fail x) outcome one.says.word) two.says.word, cycle_once g start limit n m once one.takes two.takes)
 
   -- baselines of one test of campaigns that are the same but for parts of their benches
   one_baseline : (d : Prepared) (trials : List Trial) (cycles limit : ℕ) (x y : Baseline) → IsPlan d → SameTests (slice_get trials y.test) (slice_get d.trials y.test) → IsBaseline (record d { trials = trials; cycles = cycles }) limit x → IsBaseline d limit y → x.test ≡ y.test → x ≡ y

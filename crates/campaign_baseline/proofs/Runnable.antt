@@ -1,14 +1,8 @@
 -- The bench of each simulation of a campaign can run.
-use Rattle.std.proofs.Common.{◌≡◌, ℕ, zero, suc, List, [], ◌∷◌, slice_get, Some, subst}
-use Rattle.tb_bench.specs.declared.parts.Parts.{Parts}
-use Rattle.tb_bench.specs.Runnable.{IsRunnable}
+use Rattle.campaign_baseline.proofs.Common.{◌≡◌, ℕ, zero, suc, List, [], ◌∷◌, slice_get, Some, subst, Parts, IsRunnable, Prepared, Trial, Simulation, IsPlan}
 use Rattle.project_file.specs.declared.project.TestKind.{TestKind}
 use Rattle.project_file.specs.declared.project.TestKind.TheVariants.{Eq, Sim}
 use Rattle.project_file.specs.declared.project.TestPlan.{TestPlan}
-use Rattle.campaign_plan.specs.declared.prepared.Prepared.{Prepared}
-use Rattle.campaign_plan.specs.declared.trial.Trial.{Trial}
-use Rattle.campaign_plan.specs.declared.trial.Trial.TheVariants.{Simulation}
-use Rattle.campaign_plan.specs.Campaigns.{IsPlan}
 use Rattle.campaign_plan.specs.Trials.{AreTrials, IsTrial, Reading}
 
 trial_runs : (r : Reading) (kind : TestKind) (bench : Parts) (pass fail : List ℕ) → IsTrial r kind (Simulation bench pass fail) → IsRunnable bench

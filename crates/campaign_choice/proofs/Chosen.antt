@@ -1,13 +1,8 @@
 -- The sites of mutations are sites of the netlist, and no more than the project asks for.
-use Rattle.std.proofs.Common.{◌≡◌, Bool, ℕ, zero, suc, ◌≤◌, List, [], ◌∷◌, length, slice_get, Option, None, Some, refl, subst, arith}
-use Rattle.std.specs.List.{All, filter_map, cons_option}
-use Rattle.std.proofs.lemmas.List.Elements.{All-nil, All-cons, All-head, All-tail}
-use Rattle.netlist_core.specs.declared.raw.RawNetlist.{RawNetlist}
-use Rattle.project_file.specs.declared.project.Project.{Project}
-use Rattle.mutation_sites.specs.declared.site.Site.{Site}
+use Rattle.campaign_choice.proofs.Common.{◌≡◌, Bool, ℕ, zero, suc, ◌≤◌, List, [], ◌∷◌, length, slice_get, Option, None, Some, refl, subst, arith, All, filter_map, cons_option, All-nil, All-cons}
+use Rattle.campaign_choice.proofs.Common.{All-head, All-tail, RawNetlist, Project, Site, all_sites, pick_of, picked_sites}
 use Rattle.mutation_select.specs.Draws.{drawn, generator}
 use Rattle.mutation_select.specs.Selection.{kept, selected}
-use Rattle.campaign_choice.specs.Mutations.{all_sites, pick_of, picked_sites}
 use Rattle.mutation_select.proofs.Within.{within_size}
 
 -- Lists.

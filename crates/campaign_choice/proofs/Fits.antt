@@ -1,13 +1,7 @@
 -- A book can keep the campaign of a project and its scripts: these name only its tests and tags, and there are few of all.
-use Rattle.std.proofs.Common.{◌≡◌, ℕ, ◌≤◌, List, length, map, true, Ok, refl, sym, ◌∙◌, subst, arith}
-use Rattle.std.proofs.lemmas.List.{length-map}
+use Rattle.campaign_choice.proofs.Common.{◌≡◌, ℕ, ◌≤◌, List, length, map, true, Ok, refl, sym, ◌∙◌, subst, arith, length-map, RawNetlist, Site, site_text, Project, TestPlan, IsProject, campaign_of}
+use Rattle.campaign_choice.proofs.Common.{names_of, site_line, HasScripts, kind_of, test_kinds, test_names}
 use Rattle.mcy_base.specs.declared.file.SourceFile.{SourceFile}
-use Rattle.netlist_core.specs.declared.raw.RawNetlist.{RawNetlist}
-use Rattle.mutation_sites.specs.declared.site.Site.{Site}
-use Rattle.mutation_sites.specs.SiteTexts.{site_text}
-use Rattle.project_file.specs.declared.project.Project.{Project}
-use Rattle.project_file.specs.declared.project.TestPlan.{TestPlan}
-use Rattle.project_file.specs.Projects.{IsProject}
 use Rattle.project_limits.proofs.Sizes.{conflicts_within, size_within}
 use Rattle.project_limits.proofs.Tags.{tags_few}
 use Rattle.project_limits.proofs.Tests.{tests_few}
@@ -21,9 +15,6 @@ use Rattle.report_script.specs.Fits.{report_fits}
 use Rattle.report_script.specs.Reading.{report_of}
 use Rattle.report_script.proofs.Fitting.{reads_fit as report_reads_fit}
 use Rattle.result_book.specs.Campaigns.{IsFit}
-use Rattle.campaign_choice.specs.Campaigns.{campaign_of, names_of}
-use Rattle.campaign_choice.specs.Mutations.{site_line}
-use Rattle.campaign_choice.specs.Projects.{HasScripts, kind_of, test_kinds, test_names}
 
 -- the scripts of a project name only its tests and tags
 script_fit : (p : Project) (s : Script) (r : Report) → HasScripts p s r → script_fits (length (test_names p)) (length p.tags) s ≡ true

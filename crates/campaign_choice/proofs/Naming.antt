@@ -1,10 +1,7 @@
 -- Names of files that are added, each once.
-use Rattle.std.proofs.Common.{◌≡◌, ℕ, ◌+◌, ◌<◌, List, [], ◌∷◌, ◌++◌, length, take, get_or, add-one, take-suc, ap, sym, ◌∙◌, append_assoc, append-nil}
-use Rattle.std.specs.List.{flat_map}
-use Rattle.project_file.specs.declared.project.TestPlan.{TestPlan}
-use Rattle.project_lines.specs.Paths.{with_name, with_names}
+use Rattle.campaign_choice.proofs.Common.{◌≡◌, ℕ, ◌+◌, ◌<◌, List, [], ◌∷◌, ◌++◌, length, take, get_or, add-one, take-suc, ap, sym, ◌∙◌, append_assoc, append-nil, flat_map, TestPlan, with_name}
+use Rattle.campaign_choice.proofs.Common.{with_names, kind_files}
 use Rattle.project_lines.proofs.Reading as r
-use Rattle.project_limits.specs.Files.{kind_files}
 
 pub names_none : (names : List (List ℕ)) → with_names names [] ≡ names
 names_none names = r.names_none names

@@ -1,26 +1,10 @@
 -- What a run wants of a pair that has rows.
-use Rattle.std.proofs.Common.{◌≡◌, ℕ, ◌<◌, Bool, true, false, cond, List, [], ◌∷◌, Option, None, Some, refl, sym, ◌∙◌, ap, subst}
-use Rattle.std.specs.Prelude.{IsSomeAnd, find, option_map, slice_index, unwrap_or}
-use Rattle.std.specs.List.{Any}
-use Rattle.mcy_keeper.specs.declared.book.Entry.{Entry}
+use Rattle.campaign_core.proofs.Common.{◌≡◌, ℕ, ◌<◌, Bool, true, false, cond, List, Option, None, Some, refl, sym, ◌∙◌, ap, subst, IsSomeAnd, option_map, slice_index, unwrap_or, Any, Entry, Campaign}
+use Rattle.campaign_core.proofs.Common.{Goal, Want, is_in, is_open, next_bound, open_test, want_of, wanted, wanted_by, IsGivenUp, IsPair, answers_of, bound_in, bounds_on, asked_on, word_in, words_of}
+use Rattle.campaign_core.proofs.Common.{bound_some, new_pair, not_both, word_at-words_of}
 use Rattle.tag_script.specs.Outcomes.{word_at}
-use Rattle.result_book.specs.declared.campaign.Campaign.{Campaign}
-use Rattle.result_book.specs.declared.goal.Goal.{Goal}
-use Rattle.result_book.specs.declared.goal.Want.{Want}
-use Rattle.result_book.specs.Goals.{is_in, is_open, next_bound, open_test, want_of, wanted, wanted_by}
-use Rattle.result_book.specs.Rows.{IsGivenUp, IsPair, answers_of, bound_in, bounds_on}
-use Rattle.result_book.specs.Scripts.{asked_on, word_in, words_of}
 use Rattle.result_book.proofs.Standing.{bounds_on-at, given_up_parts}
-use Rattle.result_book.proofs.Pairs.{bound_some, new_pair, not_both}
-use Rattle.result_book.proofs.Words.{word_at-words_of}
-
-found_true : (p : ℕ → Bool) (xs : List ℕ) (t : ℕ) → find p xs ≡ Some t → p t ≡ true
-found_true p [] t is = absurd (let never : None ≡ Some t = is in cc)
-found_true p (x ∷ xs) t is = go (found_true p xs t) (p x) refl is
-  where
-    go : (find p xs ≡ Some t → p t ≡ true) → (b : Bool) → p x ≡ b → cond b (Some x) (find p xs) ≡ Some t → p t ≡ true
-    go rest true holds e = let same : x ≡ t = cc in subst (λ (y : ℕ). p y ≡ true) same holds
-    go rest false other e = rest e
+use Rattle.result_book.proofs.Asking.{found_true}
 
 -- what is wanted of a mutation: the test is open, and has its next bound
 pub record IsOpened (c : Campaign) (rows : List Entry) (m : ℕ) (goal : Goal) (want : Want) : Type 0 where

@@ -1,30 +1,14 @@
 -- The row of a slot's word, and what a commit leaves of its keeper.
-use Rattle.std.proofs.Common.{◌≡◌, ◌∙◌, ℕ, List, [], length, Option, Some, Result, Ok, Err, false, true≢false, refl, sym, ap, subst}
-use Rattle.mcy_keeper.specs.declared.book.Book.{Book}
-use Rattle.mcy_keeper.specs.declared.book.Entry.{Entry}
+use Rattle.campaign_core.proofs.Common.{◌≡◌, ◌∙◌, ℕ, List, [], length, Option, Some, Result, Ok, Err, false, refl, sym, ap, subst, Book, Entry, AreNumbered, IsNext, Keeps, LeavesEither}
+use Rattle.campaign_core.proofs.Common.{LeavesNothingNew, TellsStill, with_entry, Campaign, IsWordOf, AreRows, IsPair, IsRow, CoreError, Answered, IsRowOf, AddsRow, Asked, IsIn, Turns, IsUnderWay}
 use Rattle.mcy_keeper.specs.declared.keeper.KeepError.{KeepError}
 use Rattle.mcy_keeper.specs.declared.keeper.KeepError.TheVariants.{Fault, Memory}
-use Rattle.mcy_keeper.specs.Books.{AreNumbered, IsFirst, IsNext, IsSecond, Keeps, LeavesEither, LeavesNothingNew, TellsStill, with_entry}
-use Rattle.result_book.specs.declared.campaign.Campaign.{Campaign}
-use Rattle.result_book.specs.Campaigns.{IsWordOf}
-use Rattle.result_book.specs.Rows.{AreRows, IsPair, IsRow}
-use Rattle.result_book.proofs.Formats.{second_is_not_first}
 use Rattle.result_book.proofs.Growing.{are_numbered}
-use Rattle.campaign_core.specs.declared.event.CoreError.{CoreError}
 use Rattle.campaign_core.specs.declared.event.CoreError.TheVariants.{Keeper as Failed, Memory as NoMemory}
-use Rattle.campaign_core.specs.declared.seat.Answered.{Answered}
-use Rattle.campaign_core.specs.Events.{IsRowOf}
-use Rattle.campaign_core.specs.Keeping.{AddsRow}
 use Rattle.campaign_core.specs.Refusals.{refused_as}
-use Rattle.campaign_core.specs.Testers.{Asked}
-use Rattle.campaign_core.specs.Turns.{IsIn, Turns}
-use Rattle.campaign_core.specs.UnderWay.{IsUnderWay}
 use Rattle.campaign_core.proofs.StageLemmas.{ended}
 
 -- ---- what an append asks
-
-pub not_first : (book : Book) → IsSecond book → IsFirst book → ⊥
-not_first book second first = true≢false (sym first ∙ second_is_not_first book second)
 
 -- the row is the next of a book that is told
 pub next_told : (c : Campaign) (rows : List Entry) (book : Book) (e : Entry) → AreRows c [] rows → book.journal ≡ rows → IsRow c rows e → IsNext book e

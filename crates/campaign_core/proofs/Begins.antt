@@ -1,22 +1,7 @@
 -- A campaign whose slots are all free is in order, and all its mutations wait.
-use Rattle.std.proofs.Common.{◌≡◌, arith, ℕ, zero, suc, ◌+◌, ◌*◌, ◌≤◌, Bool, false, cond, List, [], ◌∷◌, ◌++◌, length, replicate, slice_get, Option, None, Some, refl, sym, ◌∙◌, ap, subst}
-use Rattle.std.specs.Prelude.{max}
-use Rattle.std.proofs.Math.Nat.{mul-le-mul_left}
-use Rattle.mcy_keeper.specs.declared.book.Entry.{Entry}
-use Rattle.result_book.specs.declared.campaign.Campaign.{Campaign}
-use Rattle.result_book.specs.declared.goal.Goal.{Goal}
-use Rattle.result_book.specs.declared.goal.Want.{Want}
-use Rattle.result_book.specs.Campaigns.{IsFit}
-use Rattle.result_book.specs.Goals.{IsGoal, wanted}
-use Rattle.result_book.specs.Scripts.{each_from}
-use Rattle.result_book.specs.States.{IsStateOf, Progress}
-use Rattle.result_book.proofs.Each.{each_from-same, length-each_from}
-use Rattle.campaign_core.specs.declared.seat.Seat.{Seat}
-use Rattle.campaign_core.specs.Kept.{IsKept}
-use Rattle.campaign_core.specs.Seats.{seen}
-use Rattle.campaign_core.specs.Testers.{Asked}
-use Rattle.campaign_core.specs.Turns.{Busy, Turns, all_wanted, busy_count, is_in_slot, waiting, waits_for}
-use Rattle.campaign_core.specs.UnderWay.{IsUnderWay, begun, room_for}
+use Rattle.campaign_core.proofs.Common.{◌≡◌, arith, ℕ, zero, suc, ◌+◌, ◌*◌, ◌≤◌, Bool, false, cond, List, [], ◌∷◌, ◌++◌, length, replicate, slice_get, Option, None, Some, refl, sym, ◌∙◌, ap, subst}
+use Rattle.campaign_core.proofs.Common.{max, mul-le-mul_left, Entry, Campaign, Goal, Want, IsFit, IsGoal, wanted, each_from, IsStateOf, Progress, each_from-same, length-each_from, Seat, IsKept, seen}
+use Rattle.campaign_core.proofs.Common.{Asked, Busy, Turns, all_wanted, busy_count, is_in_slot, waiting, waits_for, IsUnderWay, begun, room_for}
 use Rattle.campaign_core.proofs.Rooms.{all_within}
 use Rattle.campaign_core.proofs.SlotLemmas.{count_first}
 

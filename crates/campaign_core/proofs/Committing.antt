@@ -1,24 +1,7 @@
 -- The row of a slot's word, from what is kept before it is added to what is kept after it.
-use Rattle.std.proofs.Common.{◌≡◌, ◌∙◌, arith, ℕ, ◌+◌, ◌<◌, List, [], ◌∷◌, ◌++◌, length, set, slice_get, Option, None, Some, refl, sym, ap, subst}
-use Rattle.std.specs.Prelude.{option_map}
-use Rattle.std.proofs.lemmas.List.{length-map}
-use Rattle.mcy_keeper.specs.declared.book.Entry.{Entry}
-use Rattle.result_book.specs.declared.goal.Want.{Want}
-use Rattle.result_book.specs.Campaigns.{IsWordOf}
-use Rattle.result_book.specs.Goals.{wanted}
-use Rattle.result_book.specs.Rows.{IsPair, IsRow, MayFollow}
-use Rattle.result_book.specs.States.{IsStateOf, Progress}
-use Rattle.result_book.proofs.Each.{length-each_from}
-use Rattle.campaign_core.specs.declared.seat.Answered.{Answered}
-use Rattle.campaign_core.specs.declared.seat.Seat.{Seat}
-use Rattle.campaign_core.specs.declared.seat.Work.TheVariants.{Going}
-use Rattle.campaign_core.specs.Events.{Committed, HasWord, IsRowOf, slot_after}
-use Rattle.campaign_core.specs.Kept.{IsKept}
-use Rattle.campaign_core.specs.Seats.{AreJobs, IsJobOf, busy_of, seen}
-use Rattle.campaign_core.specs.Stages.{answered_at}
-use Rattle.campaign_core.specs.Testers.{Asked, GivesTheSame}
-use Rattle.campaign_core.specs.Turns.{Busy, IsIn, Turns, waits_for}
-use Rattle.campaign_core.specs.UnderWay.{IsUnderWay}
+use Rattle.campaign_core.proofs.Common.{◌≡◌, ◌∙◌, arith, ℕ, ◌+◌, ◌<◌, List, [], ◌∷◌, ◌++◌, length, set, slice_get, Option, None, Some, refl, sym, ap, subst, option_map, length-map, Entry, Want}
+use Rattle.campaign_core.proofs.Common.{IsWordOf, wanted, IsPair, IsRow, MayFollow, IsStateOf, Progress, length-each_from, Answered, Seat, Going, Committed, HasWord, IsRowOf, slot_after, IsKept}
+use Rattle.campaign_core.proofs.Common.{AreJobs, IsJobOf, busy_of, seen, answered_at, Asked, GivesTheSame, Busy, IsIn, Turns, waits_for, IsUnderWay}
 use Rattle.campaign_core.proofs.Appends.{row_of, word_told}
 use Rattle.campaign_core.proofs.KeptLemmas.{busy_follows, committed_kept, jobs_set}
 use Rattle.campaign_core.proofs.Rooms.{all_less}

@@ -1,18 +1,8 @@
 -- Whole lists of allowed events.
-use Rattle.std.proofs.Common.{◌≡◌, inl, inr, arith, ℕ, ◌+◌, List, [], ◌∷◌, ◌++◌, length, Option, None, Some, refl, sym, ◌∙◌, ap, subst, append_assoc, length-append}
-use Rattle.std.specs.Prelude.{MatchOption, ⊤}
-use Rattle.std.proofs.lemmas.List.{append-nil}
+use Rattle.campaign_core.proofs.Common.{◌≡◌, inl, inr, arith, ℕ, ◌+◌, List, [], ◌∷◌, ◌++◌, length, Option, None, Some, refl, sym, ◌∙◌, ap, subst, append_assoc, length-append, MatchOption, ⊤}
+use Rattle.campaign_core.proofs.Common.{append-nil, Entry, IsWordOf, Progress, Event, Start, Turn, Commit, Stop, Committed, IsUnchanged, Takes, AreGiven, Came, Course, Kept, asked_in, Asked}
+use Rattle.campaign_core.proofs.Common.{GivesTheSame, Turns, IsUnderWay}
 use Rattle.std.proofs.lemmas.List.Elements.{All-append, All-cons, All-nil, All-weaker}
-use Rattle.mcy_keeper.specs.declared.book.Entry.{Entry}
-use Rattle.result_book.specs.Campaigns.{IsWordOf}
-use Rattle.result_book.specs.States.{Progress}
-use Rattle.campaign_core.specs.declared.event.Event.{Event}
-use Rattle.campaign_core.specs.declared.event.Event.TheVariants.{Start, Turn, Commit, Stop}
-use Rattle.campaign_core.specs.Events.{Committed, IsUnchanged, Takes}
-use Rattle.campaign_core.specs.Laws.{AreGiven, Came, Course, Kept, asked_in}
-use Rattle.campaign_core.specs.Testers.{Asked, GivesTheSame}
-use Rattle.campaign_core.specs.Turns.{Turns}
-use Rattle.campaign_core.specs.UnderWay.{IsUnderWay}
 use Rattle.campaign_core.proofs.Orderly.{takes_order, unchanged_order}
 
 -- what one event leaves of the campaign, and the row that it adds, if it adds one

@@ -1,33 +1,13 @@
 -- Each event but Stop leaves fewer events.
-use Rattle.std.proofs.Common.{◌≡◌, ◌≢◌, inl, inr, arith, ℕ, zero, suc, ◌+◌, ◌-◌, ◌*◌, ◌<◌, ◌≤◌, Bool, true, false, cond, List, [], ◌∷◌, ◌++◌, length, set, slice_get, Option, None, Some, refl, sym, ◌∙◌, ap, ap₂, subst}
-use Rattle.std.specs.Prelude.{MatchOption, sum, unwrap_or}
-use Rattle.std.proofs.Math.Nat.{mul-le-mul_left}
-use Rattle.std.proofs.lemmas.Bool.Decides.{eqb_tells}
-use Rattle.mcy_keeper.specs.declared.book.Entry.{Entry}
-use Rattle.result_book.specs.declared.campaign.Campaign.{Campaign}
-use Rattle.result_book.specs.declared.goal.Goal.{Goal}
-use Rattle.result_book.specs.declared.goal.Want.{Want}
-use Rattle.result_book.specs.Campaigns.{IsWordOf, first_bound}
-use Rattle.result_book.specs.Goals.{is_given_up, is_open, next_bound, wanted}
-use Rattle.result_book.specs.Rows.{answers_of, bound_in}
-use Rattle.result_book.specs.Scripts.{each_from, word_in}
-use Rattle.result_book.proofs.Each.{each_from-same}
-use Rattle.result_book.proofs.Wanting.{want_follows}
-use Rattle.campaign_core.specs.Ahead.{events_by, events_left, greatest, mutation_events, slot_of, test_events, test_turns}
-use Rattle.campaign_core.specs.declared.event.Event.{Event}
-use Rattle.campaign_core.specs.declared.event.Event.TheVariants.{Start, Turn, Commit, Stop}
-use Rattle.campaign_core.specs.Events.{Committed, IsAllowed, MayStart, Started, Takes, Turned}
-use Rattle.campaign_core.specs.Kept.{mutation_left, rows_left, test_left}
-use Rattle.campaign_core.specs.Testers.{Asked}
-use Rattle.campaign_core.specs.Turns.{Busy, IsIn, Turns, is_in_slot, is_of}
-use Rattle.campaign_core.specs.UnderWay.{IsBusy, IsUnderWay}
+use Rattle.campaign_core.proofs.Common.{◌≡◌, ◌≢◌, inl, inr, arith, ℕ, zero, suc, ◌+◌, ◌-◌, ◌*◌, ◌<◌, ◌≤◌, Bool, true, false, cond, List, [], ◌∷◌, ◌++◌, length, set, slice_get, Option, None, Some}
+use Rattle.campaign_core.proofs.Common.{refl, sym, ◌∙◌, ap, ap₂, subst, MatchOption, sum, unwrap_or, mul-le-mul_left, eqb_tells, Entry, Campaign, Goal, Want, IsWordOf, first_bound, is_given_up}
+use Rattle.campaign_core.proofs.Common.{is_open, next_bound, wanted, answers_of, bound_in, each_from, word_in, each_from-same, want_follows, events_by, events_left, greatest, mutation_events, slot_of}
+use Rattle.campaign_core.proofs.Common.{test_events, test_turns, Event, Start, Turn, Commit, Stop, Committed, IsAllowed, MayStart, Started, Takes, Turned, mutation_left, rows_left, test_left, Asked}
+use Rattle.campaign_core.proofs.Common.{Busy, IsIn, Turns, is_in_slot, is_of, IsBusy, IsUnderWay, same_Some}
 use Rattle.campaign_core.proofs.Again.{bound_of_word, wanted_by_rows}
 use Rattle.campaign_core.proofs.Orderly.{waits_some}
 use Rattle.campaign_core.proofs.Rooms.{left_other, mutation_less, sum_at, sum_less}
 use Rattle.campaign_core.proofs.SlotLemmas.{in_set, inside, not_in_slot, set_here, set_other}
-
-some_is : {X : Type 0} (x y : X) → Some x ≡ Some y → x ≡ y
-some_is x y e = cc
 
 greatest_at : (f : ℕ → ℕ) (from n k : ℕ) → k < n → f (from + k) ≤ greatest f from n
 greatest_at f from zero k within = absurd (omega arith)
@@ -43,7 +23,7 @@ greatest_at f from (suc n) (suc k) within =
 slot_same : (m : ℕ) (slots : List (Option Busy)) (k : ℕ) (old new : Option Busy) → slice_get slots k ≡ Some old → is_of m old ≡ false → is_of m new ≡ false → slot_of m (set slots k new) ≡ slot_of m slots
 slot_same m [] k old new at not_old not_new = absurd (let never : None ≡ Some old = at in cc)
 slot_same m (x ∷ slots) zero old new at not_old not_new =
-    let is : x ≡ old = some_is x old at in
+    let is : x ≡ old = same_Some x old at in
     ap (λ (b : Bool). cond b new (slot_of m slots)) not_new ∙ sym (ap (λ (b : Bool). cond b x (slot_of m slots)) (ap (is_of m) is ∙ not_old))
 slot_same m (x ∷ slots) (suc k) old new at not_old not_new = ap (λ (o : Option Busy). cond (is_of m x) x o) (slot_same m slots k old new at not_old not_new)
 
@@ -58,7 +38,7 @@ of_this b m same = elim (eqb_tells b.asked.mutation m) [ inl h ↦ h.0 | inr h �
 slot_this : (m : ℕ) (slots : List (Option Busy)) (k : ℕ) (b : Busy) → IsIn slots k b → b.asked.mutation ≡ m → ((j : ℕ) (a : Busy) → j ≢ k → IsIn slots j a → a.asked.mutation ≢ m) → slot_of m slots ≡ Some b
 slot_this m [] k b at same others = absurd (let never : None ≡ Some (Some b) = at in cc)
 slot_this m (x ∷ slots) zero b at same others =
-    let is : x ≡ Some b = some_is x (Some b) at in
+    let is : x ≡ Some b = same_Some x (Some b) at in
     ap (λ (o : Option Busy). cond (is_of m o) o (slot_of m slots)) is ∙ ap (λ (t : Bool). cond t (Some b) (slot_of m slots)) (of_this b m same)
 slot_this m (x ∷ slots) (suc k) b at same others =
     let not_first : is_of m x ≡ false = of_other m x (λ a is. others 0 a zero_is_not (ap Some is)) in
@@ -199,7 +179,7 @@ module _ {T : Type 0} (gives : Asked → ℕ → Type 0) (most : Asked → ℕ) 
       others : (k : ℕ) → k ≢ asked.mutation → mutation_events most new k ≡ mutation_events most old k
       others k other =
           events_same k campaign goal (ap (λ (l : List Entry). mutation_left old.campaign old.goal.retry l k) rows)
-          (ap (slot_of k) slots ∙ slot_same k old.slots slot None (Some started.busy) may.free refl (of_other k (Some started.busy) (λ b is same. other (sym same ∙ ap (λ (x : Busy). x.asked.mutation) (sym (some_is started.busy b is)) ∙ mutation))))
+          (ap (slot_of k) slots ∙ slot_same k old.slots slot None (Some started.busy) may.free refl (of_other k (Some started.busy) (λ b is same. other (sym same ∙ ap (λ (x : Busy). x.asked.mutation) (sym (same_Some started.busy b is)) ∙ mutation))))
 
   pub turned_fewer : (slot : ℕ) → Turned gives old new slot → events_left most new < events_left most old
   turned_fewer slot turned = one_fewer turned.before.asked.mutation busy.mutation campaign others here
@@ -242,8 +222,8 @@ module _ {T : Type 0} (gives : Asked → ℕ → Type 0) (most : Asked → ℕ) 
       others : (k : ℕ) → k ≢ turned.before.asked.mutation → mutation_events most new k ≡ mutation_events most old k
       others k other =
           events_same k campaign goal (ap (λ (l : List Entry). mutation_left old.campaign old.goal.retry l k) rows)
-          (ap (slot_of k) slots ∙ slot_same k old.slots slot (Some turned.before) (Some turned.now) turned.at (of_other k (Some turned.before) (λ b is same. other (sym same ∙ ap (λ (x : Busy). x.asked.mutation) (sym (some_is turned.before b is)))))
-          (of_other k (Some turned.now) (λ b is same. other (sym same ∙ ap (λ (x : Busy). x.asked.mutation) (sym (some_is turned.now b is)) ∙ mutation))))
+          (ap (slot_of k) slots ∙ slot_same k old.slots slot (Some turned.before) (Some turned.now) turned.at (of_other k (Some turned.before) (λ b is same. other (sym same ∙ ap (λ (x : Busy). x.asked.mutation) (sym (same_Some turned.before b is)))))
+          (of_other k (Some turned.now) (λ b is same. other (sym same ∙ ap (λ (x : Busy). x.asked.mutation) (sym (same_Some turned.now b is)) ∙ mutation))))
 
   pub committed_fewer : (slot : ℕ) → Committed old new slot → events_left most new < events_left most old
   committed_fewer slot committed = one_fewer committed.row.busy.asked.mutation busy.mutation campaign others here
@@ -302,7 +282,7 @@ module _ {T : Type 0} (gives : Asked → ℕ → Type 0) (most : Asked → ℕ) 
       others k other =
           events_same k campaign goal (same_left k other)
           (ap (slot_of k) slots ∙ slot_same k old.slots slot (Some committed.row.busy) None committed.row.at
-          (of_other k (Some committed.row.busy) (λ b is same. other (sym same ∙ ap (λ (x : Busy). x.asked.mutation) (sym (some_is committed.row.busy b is))))) refl)
+          (of_other k (Some committed.row.busy) (λ b is same. other (sym same ∙ ap (λ (x : Busy). x.asked.mutation) (sym (same_Some committed.row.busy b is))))) refl)
 
 -- an event but Stop that takes place
 pub takes_fewer : {T : Type 0} (gives : Asked → ℕ → Type 0) (most : Asked → ℕ) (old new : Turns T) (e : Event) → IsUnderWay gives old → IsAllowed old e → Takes gives most old e new → e ≢ Stop → events_left most new < events_left most old

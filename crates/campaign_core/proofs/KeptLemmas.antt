@@ -1,30 +1,12 @@
 -- What the calls of a core leave of its parts.
-use Rattle.std.proofs.Common.{◌≡◌, inl, inr, arith, ℕ, zero, suc, ◌+◌, ◌<◌, ◌≤◌, Bool, true, false, cond, List, [], ◌∷◌, ◌++◌, length, set, slice_get, Option, None, Some, refl, sym, ◌∙◌, ap, subst}
-use Rattle.std.specs.Prelude.{is_some, option_map}
-use Rattle.std.proofs.lemmas.Bool.Decides.{eqb_tells}
-use Rattle.std.proofs.lemmas.Option.{slice_get-map}
-use Rattle.result_book.specs.declared.goal.Want.{Want}
-use Rattle.result_book.specs.Campaigns.{is_sim}
-use Rattle.result_book.specs.Goals.{wanted}
-use Rattle.result_book.specs.Rows.{MayFollow}
-use Rattle.result_book.proofs.Counting.{few_rows}
+use Rattle.campaign_core.proofs.Common.{◌≡◌, inl, inr, arith, ℕ, zero, suc, ◌+◌, ◌<◌, ◌≤◌, Bool, true, false, cond, List, [], ◌∷◌, ◌++◌, length, set, slice_get, Option, None, Some, refl, sym, ◌∙◌, ap}
+use Rattle.campaign_core.proofs.Common.{subst, is_some, option_map, eqb_tells, slice_get-map, same_Some, Want, is_sim, wanted, MayFollow, few_rows, want_follows, Seat, Going, Committed, IsUnchanged}
+use Rattle.campaign_core.proofs.Common.{MayStart, Started, Turned, IsKept, all_left, AreJobs, IsJobOf, busy_of, seen, Asked, GivesTheSame, IsAskable, Busy, IsIn, Turns, busy_count, IsUnderWay}
 use Rattle.result_book.proofs.Following.{bound_within}
-use Rattle.result_book.proofs.Wanting.{want_follows}
-use Rattle.campaign_core.specs.declared.seat.Seat.{Seat}
-use Rattle.campaign_core.specs.declared.seat.Work.TheVariants.{Going}
-use Rattle.campaign_core.specs.Events.{Committed, IsUnchanged, MayStart, Started, Turned}
-use Rattle.campaign_core.specs.Kept.{IsKept, all_left}
-use Rattle.campaign_core.specs.Seats.{AreJobs, IsJobOf, busy_of, seen}
-use Rattle.campaign_core.specs.Testers.{Asked, GivesTheSame, IsAskable}
-use Rattle.campaign_core.specs.Turns.{Busy, IsIn, Turns, busy_count}
-use Rattle.campaign_core.specs.UnderWay.{IsUnderWay}
 use Rattle.campaign_core.proofs.Orderly.{committed_order, started_order, turned_order, unchanged_order, waits_some}
 use Rattle.campaign_core.proofs.Rooms.{all_less}
 use Rattle.campaign_core.proofs.SlotLemmas.{count_first, set_here, set_other}
 use Rattle.campaign_core.proofs.Waited.{waiting_committed, waiting_started, waiting_turned, waiting_unchanged}
-
-some_is : {X : Type 0} (x y : X) → Some x ≡ Some y → x ≡ y
-some_is x y e = cc
 
 -- ---- the slots, as callers see them
 
@@ -58,7 +40,7 @@ module _ {J : Type 0} (has has' : J → Type 0) (asked : J → Asked) (word : J 
   -- one slot has something else
   pub jobs_set : (k : ℕ) (v : Option (Seat J)) → k < length slots → ((seat : Seat J) (job : J) → v ≡ Some seat → seat.work ≡ Going job → IsJobOf has' asked word seat job) → AreJobs has' asked word (set slots k v)
   jobs_set k v within one j seat job at going = elim (eqb_tells j k) [
-    | inl h ↦ one seat job (some_is v (Some seat) (sym (set_here slots k v within) ∙ ap (λ (i : ℕ). slice_get (set slots k v) i) (sym h.1) ∙ at)) going
+    | inl h ↦ one seat job (same_Some v (Some seat) (sym (set_here slots k v within) ∙ ap (λ (i : ℕ). slice_get (set slots k v) i) (sym h.1) ∙ at)) going
     | inr h ↦ jobs_still j seat job (sym (set_other slots k j v h.1) ∙ at) going
   ]
 

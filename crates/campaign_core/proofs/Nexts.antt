@@ -1,26 +1,10 @@
 -- The event that comes next is allowed, and there is none exactly where no mutation wants a test.
-use Rattle.std.proofs.Common.{◌≡◌, inl, inr, arith, ℕ, zero, suc, ◌+◌, ◌-◌, ◌<◌, ◌≤◌, Bool, true, false, true≢false, cond, List, [], ◌∷◌, length, slice_get, Option, None, Some, refl, sym, ◌∙◌, ap, subst}
-use Rattle.std.specs.Prelude.{◌⊎◌, ◌↔◌, IfSome, is_some, option_and_then, option_map}
-use Rattle.std.specs.List.{position_from}
-use Rattle.std.specs.Option.{option_or}
-use Rattle.result_book.specs.declared.goal.Want.{Want}
-use Rattle.result_book.specs.Goals.{wanted}
-use Rattle.result_book.specs.Scripts.{each_from}
-use Rattle.result_book.proofs.Each.{each_at, length-each_from}
-use Rattle.result_book.proofs.Pairs.{none_or}
-use Rattle.campaign_core.specs.declared.event.Event.{Event}
-use Rattle.campaign_core.specs.declared.event.Event.TheVariants.{Turn, Commit}
-use Rattle.campaign_core.specs.Events.{IsAllowed}
-use Rattle.campaign_core.specs.Orders.{WantsNone, first_given, given_at, least_waiting, next_event, next_start, slot_gives, start_of}
-use Rattle.campaign_core.specs.Testers.{Asked}
-use Rattle.campaign_core.specs.Turns.{Busy, IsFree, IsIn, Turns, is_in_slot, waiting, waits_for}
-use Rattle.campaign_core.specs.UnderWay.{IsUnderWay}
-use Rattle.campaign_core.specs.Waits.{want_at}
-use Rattle.campaign_core.proofs.SlotLemmas.{below_or_not, in_no_slot, inside}
+use Rattle.campaign_core.proofs.Common.{◌≡◌, inl, inr, arith, ℕ, zero, suc, ◌+◌, ◌-◌, ◌<◌, ◌≤◌, Bool, true, false, true≢false, cond, List, [], ◌∷◌, length, slice_get, Option, None, Some, refl, sym}
+use Rattle.campaign_core.proofs.Common.{◌∙◌, ap, subst, ◌⊎◌, ◌↔◌, IfSome, is_some, option_and_then, option_map, position_from, option_or, Want, wanted, each_from, each_at, length-each_from, none_or}
+use Rattle.campaign_core.proofs.Common.{Event, Turn, Commit, IsAllowed, WantsNone, first_given, given_at, least_waiting, next_event, next_start, slot_gives, start_of, Asked, Busy, IsFree, IsIn, Turns}
+use Rattle.campaign_core.proofs.Common.{is_in_slot, waiting, waits_for, IsUnderWay, want_at, same_Some, below_or_not}
+use Rattle.campaign_core.proofs.SlotLemmas.{in_no_slot, inside}
 use Rattle.campaign_core.proofs.WaitLemmas.{beyond}
-
-some_is : {X : Type 0} (x y : X) → Some x ≡ Some y → x ≡ y
-some_is x y e = cc
 
 -- the same in either case
 either : {X : Type 0} (b : Bool) (x : X) → cond b x x ≡ x
@@ -35,7 +19,7 @@ least_has f from zero m is = absurd (let never : None ≡ Some m = is in cc)
 least_has f from (suc n) m is = go (least_has f (from + 1) n m) (is_some (f from)) refl is
   where
     go : (position_from is_some (from + 1) (each_from f (from + 1) n) ≡ Some m → (m < (from + 1) + n) × (is_some (f m) ≡ true)) → (b : Bool) → is_some (f from) ≡ b → cond b (Some from) (position_from is_some (from + 1) (each_from f (from + 1) n)) ≡ Some m → (m < from + suc n) × (is_some (f m) ≡ true)
-    go more true e h = let same : from ≡ m = some_is from m h in (omega (arith, same), subst (λ (k : ℕ). is_some (f k) ≡ true) same e)
+    go more true e h = let same : from ≡ m = same_Some from m h in (omega (arith, same), subst (λ (k : ℕ). is_some (f k) ≡ true) same e)
     go more false e h = let rest = more h in (omega (arith, rest.0), rest.1)
 
 pub least_here : {X : Type 0} (f : ℕ → Option X) (n m : ℕ) → position_from is_some 0 (each_from f 0 n) ≡ Some m → (m < n) × (is_some (f m) ≡ true)
@@ -92,7 +76,7 @@ module _ {T : Type 0} (s : Turns T) where
       second : (m : ℕ) → least_waiting s ≡ Some m → (o : Option Want) → waits_for s m ≡ o → option_map (start_of slot m) o ≡ Some e → IsAllowed s e
       second m at None waits h = absurd (let never : None ≡ Some e = h in cc)
       second m at (Some want) waits h =
-          subst (λ (x : Event). IsAllowed s x) (some_is (start_of slot m want) e h)
+          subst (λ (x : Event). IsAllowed s x) (same_Some (start_of slot m want) e h)
           (going, record { free = free; mutation = (least_here (waits_for s) (length s.campaign.mutations) m at).0; waits = waits })
 
       first : (o : Option ℕ) → least_waiting s ≡ o → option_and_then (λ m. option_map (start_of slot m) (waits_for s m)) o ≡ Some e → IsAllowed s e
@@ -103,8 +87,8 @@ module _ {T : Type 0} (s : Turns T) where
   slot_allowed going slot e is = go (slice_get s.slots slot) refl is
     where
       by_word : (busy : Busy) → IsIn s.slots slot busy → (o : Option ℕ) → busy.word ≡ o → Some (cond (is_some o) (Commit slot) (Turn slot)) ≡ Some e → IsAllowed s e
-      by_word busy at None word h = subst (λ (x : Event). IsAllowed s x) (some_is (Turn slot) e h) (going, record { busy = busy; at = at; none = word })
-      by_word busy at (Some w) word h = subst (λ (x : Event). IsAllowed s x) (some_is (Commit slot) e h) (going, record { busy = busy; word = w; at = at; some = word })
+      by_word busy at None word h = subst (λ (x : Event). IsAllowed s x) (same_Some (Turn slot) e h) (going, record { busy = busy; at = at; none = word })
+      by_word busy at (Some w) word h = subst (λ (x : Event). IsAllowed s x) (same_Some (Commit slot) e h) (going, record { busy = busy; word = w; at = at; some = word })
 
       go : (o : Option (Option Busy)) → slice_get s.slots slot ≡ o → given_at s slot o ≡ Some e → IsAllowed s e
       go None at h = absurd (let never : None ≡ Some e = h in cc)

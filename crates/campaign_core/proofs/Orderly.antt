@@ -1,22 +1,8 @@
 -- Each event that is allowed keeps a campaign in order.
-use Rattle.std.proofs.Common.{◌≡◌, ◌≢◌, inl, inr, arith, ℕ, suc, ◌+◌, ◌<◌, ◌≤◌, Bool, true, false, cond, List, [], ◌∷◌, ◌++◌, length, set, slice_get, map, Option, None, Some, refl, sym, ◌∙◌, ap, subst, length-append}
-use Rattle.std.specs.Prelude.{◌⊎◌, MatchOption, ⊤, is_some, option_map, nat_lt}
-use Rattle.std.proofs.lemmas.Bool.Decides.{Decides-ltb}
-use Rattle.std.proofs.lemmas.Option.{slice_get-map}
-use Rattle.mcy_keeper.specs.declared.book.Entry.{Entry}
-use Rattle.result_book.specs.declared.campaign.Campaign.{Campaign}
-use Rattle.result_book.specs.declared.goal.Goal.{Goal}
-use Rattle.result_book.specs.declared.goal.Want.{Want}
-use Rattle.result_book.specs.Campaigns.{IsWordOf}
-use Rattle.result_book.specs.Goals.{wanted}
-use Rattle.result_book.specs.States.{IsStateOf}
-use Rattle.result_book.proofs.Wanting.{wanted-other}
-use Rattle.campaign_core.specs.declared.event.Event.{Event}
-use Rattle.campaign_core.specs.declared.event.Event.TheVariants.{Start, Turn, Commit, Stop}
-use Rattle.campaign_core.specs.Events.{Committed, IsAllowed, IsUnchanged, MayStart, Started, Takes, Turned, asked_and_word, slot_after}
-use Rattle.campaign_core.specs.Testers.{Asked, GivesTheSame}
-use Rattle.campaign_core.specs.Turns.{Busy, IsIn, Turns, busy_count, is_in_slot, waits_for}
-use Rattle.campaign_core.specs.UnderWay.{AreApart, IsBusy, IsUnderWay}
+use Rattle.campaign_core.proofs.Common.{◌≡◌, ◌≢◌, inl, inr, arith, ℕ, suc, ◌+◌, ◌<◌, ◌≤◌, Bool, true, false, cond, List, [], ◌∷◌, ◌++◌, length, set, slice_get, map, Option, None, Some, refl, sym, ◌∙◌}
+use Rattle.campaign_core.proofs.Common.{ap, subst, length-append, ◌⊎◌, MatchOption, ⊤, is_some, option_map, nat_lt, Decides-ltb, slice_get-map, Entry, Campaign, Goal, Want, IsWordOf, wanted}
+use Rattle.campaign_core.proofs.Common.{IsStateOf, wanted-other, Event, Start, Turn, Commit, Stop, Committed, IsAllowed, IsUnchanged, MayStart, Started, Takes, Turned, asked_and_word, slot_after}
+use Rattle.campaign_core.proofs.Common.{Asked, GivesTheSame, Busy, IsIn, Turns, busy_count, is_in_slot, waits_for, AreApart, IsBusy, IsUnderWay}
 use Rattle.campaign_core.proofs.SlotLemmas.{count_first, count_set, in_set, inside, length_set, not_in_slot}
 
 -- the slot that comes first after an event is one

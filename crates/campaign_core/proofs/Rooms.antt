@@ -1,34 +1,16 @@
 -- The room for rows: what a run may add of the tests of its mutations falls with each row that it adds.
-use Rattle.std.proofs.Common.{◌≡◌, inl, inr, arith, ℕ, zero, suc, ◌+◌, ◌*◌, ◌<◌, ◌≤◌, Bool, true, false, cond, List, [], ◌∷◌, ◌++◌, length, Option, None, Some, refl, sym, ◌∙◌, ap, ap₂, subst}
-use Rattle.std.specs.Prelude.{sum, unwrap_or, ◌&&◌, ◌==◌}
-use Rattle.std.proofs.lemmas.Bool.{le-ltb}
-use Rattle.std.proofs.lemmas.Bool.Decides.{eqb_tells}
-use Rattle.std.proofs.lemmas.List.Sums.{sum_by-cons}
-use Rattle.mcy_keeper.specs.declared.book.Entry.{Entry}
-use Rattle.result_book.specs.declared.campaign.Campaign.{Campaign}
+use Rattle.campaign_core.proofs.Common.{◌≡◌, inl, inr, arith, ℕ, zero, suc, ◌+◌, ◌*◌, ◌<◌, ◌≤◌, Bool, true, false, cond, List, [], ◌∷◌, ◌++◌, length, Option, None, Some, refl, sym, ◌∙◌, ap, ap₂}
+use Rattle.campaign_core.proofs.Common.{subst, sum, unwrap_or, ◌==◌, le-ltb, eqb_tells, sum_by-cons, Entry, Campaign, Goal, is_given_up, is_open, next_bound, wanted, IsPair, answer_of, answers_of}
+use Rattle.campaign_core.proofs.Common.{bound_in, each_from, word_code, word_in, word_in-other, word_in-same, all_left, mutation_left, rows_left, test_left, room_for, sum_most}
+use Rattle.std.specs.Prelude.{◌&&◌}
 use Rattle.result_book.specs.declared.script.TestWord.TheVariants.{Unknown}
-use Rattle.result_book.specs.declared.goal.Goal.{Goal}
-use Rattle.result_book.specs.Goals.{is_given_up, is_open, next_bound, wanted}
-use Rattle.result_book.specs.Rows.{IsPair, answer_of, answers_of, bound_in}
-use Rattle.result_book.specs.Scripts.{each_from, word_code, word_in}
-use Rattle.result_book.proofs.Words.{word_in-other, word_in-same}
 use Rattle.result_book.proofs.Grouping.{answers_of-other, answers_of-same, bound_in-other, bound_in-same, pair_no, pair_yes}
-use Rattle.campaign_core.specs.Kept.{all_left, mutation_left, rows_left, test_left}
-use Rattle.campaign_core.specs.UnderWay.{room_for}
 use Rattle.campaign_core.proofs.Again.{bound_of_word, wanted_by_rows}
 
 -- ---- sums of what each of some numbers has
 
 sum_first : (f : ℕ → ℕ) (from n : ℕ) → sum (each_from f from (suc n)) ≡ f from + sum (each_from f (from + 1) n)
 sum_first f from n = sum_by-cons (λ (x : ℕ). x) (f from) (each_from f (from + 1) n)
-
--- none has more
-sum_most : (f : ℕ → ℕ) (most from n : ℕ) → ((k : ℕ) → f k ≤ most) → sum (each_from f from n) ≤ n * most
-sum_most f most from zero each = omega arith
-sum_most f most from (suc n) each =
-    let rest = sum_most f most (from + 1) n each in
-    let step : suc n * most ≡ most + n * most = omega arith in
-    omega (arith, sum_first f from n, each from, rest, step)
 
 -- where none has more than before
 sum_no_more : (f g : ℕ → ℕ) (from n : ℕ) → ((k : ℕ) → g k ≤ f k) → sum (each_from g from n) ≤ sum (each_from f from n)

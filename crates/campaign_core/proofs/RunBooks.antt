@@ -1,25 +1,9 @@
 -- What the events of a program leave of the keeper's book.
-use Rattle.std.proofs.Common.{◌≡◌, ◌∙◌, inl, inr, ℕ, [], ◌∷◌, ◌++◌, Option, Some, Result, Ok, Err, refl, sym, ap, subst}
-use Rattle.std.specs.Prelude.{◌⊎◌, OnOk}
-use Rattle.mcy_keeper.specs.declared.book.Book.{Book}
-use Rattle.mcy_keeper.specs.declared.book.Entry.{Entry}
-use Rattle.mcy_keeper.specs.Books.{IsSecond, Keeps, with_entry}
-use Rattle.result_book.specs.declared.campaign.Campaign.{Campaign}
+use Rattle.campaign_core.proofs.Common.{◌≡◌, ◌∙◌, inl, inr, ℕ, [], ◌∷◌, ◌++◌, Option, Some, Result, Ok, Err, refl, sym, ap, subst, ◌⊎◌, OnOk, Book, Entry, IsSecond, Keeps, with_entry, Campaign}
+use Rattle.campaign_core.proofs.Common.{CoreError, Event, Start, Turn, Commit, Stop, IsRowOf, Takes, AddsRow, AddsRowBy, AreTold, TouchesNone, next_event, LeavesNext, book_of, Asked, Busy, Turns}
+use Rattle.campaign_core.proofs.Common.{IsUnderWay, same_Some}
 use Rattle.result_book.proofs.Refusals.{one_row}
-use Rattle.campaign_core.specs.declared.event.CoreError.{CoreError}
 use Rattle.campaign_core.specs.declared.event.CoreError.TheVariants.{Keeper as Failed, Memory as NoMemory}
-use Rattle.campaign_core.specs.declared.event.Event.{Event}
-use Rattle.campaign_core.specs.declared.event.Event.TheVariants.{Start, Turn, Commit, Stop}
-use Rattle.campaign_core.specs.Events.{IsRowOf, Takes}
-use Rattle.campaign_core.specs.Keeping.{AddsRow, AddsRowBy, AreTold, TouchesNone}
-use Rattle.campaign_core.specs.Orders.{next_event}
-use Rattle.campaign_core.specs.Running.{LeavesNext, book_of}
-use Rattle.campaign_core.specs.Testers.{Asked}
-use Rattle.campaign_core.specs.Turns.{Busy, Turns}
-use Rattle.campaign_core.specs.UnderWay.{IsUnderWay}
-
-some_is : {X : Type 0} (x y : X) → Some x ≡ Some y → x ≡ y
-some_is x y e = cc
 
 -- a keeper that keeps the book of these rows tells them alone
 pub kept_told : {T : Type 0} (gives : Asked → ℕ → Type 0) (s : Turns T) (holds : Book → Type 0) (leaves : Option Book → Type 0) → IsUnderWay gives s → ((book other : Book) → holds book → holds other → book ≡ other)
@@ -31,11 +15,11 @@ kept_told gives s holds leaves order one kept book held =
 -- the word of a slot's job makes one row
 same_row : {T : Type 0} (s : Turns T) (slot : ℕ) (e f : Entry) → IsRowOf s slot e → IsRowOf s slot f → e ≡ f
 same_row s slot e f one two =
-    let there : Some one.busy ≡ Some two.busy = some_is (Some one.busy) (Some two.busy) (sym one.at ∙ two.at) in
-    let busy : one.busy ≡ two.busy = some_is one.busy two.busy there in
+    let there : Some one.busy ≡ Some two.busy = same_Some (Some one.busy) (Some two.busy) (sym one.at ∙ two.at) in
+    let busy : one.busy ≡ two.busy = same_Some one.busy two.busy there in
     let mutation : e.mutation ≡ f.mutation = one.pair.0 ∙ ap (λ (b : Busy). b.asked.mutation) busy ∙ sym two.pair.0 in
     let test : e.test ≡ f.test = one.pair.1 ∙ ap (λ (b : Busy). b.asked.test) busy ∙ sym two.pair.1 in
-    let word : e.word ≡ f.word = some_is e.word f.word (sym one.word ∙ ap (λ (b : Busy). b.word) busy ∙ two.word) in
+    let word : e.word ≡ f.word = same_Some e.word f.word (sym one.word ∙ ap (λ (b : Busy). b.word) busy ∙ two.word) in
     let bound : e.bound ≡ f.bound = one.bound ∙ ap (λ (b : Busy). b.asked.bound) busy ∙ sym two.bound in
     one_row s.campaign s.state.rows e f one.row two.row mutation test word bound
 

@@ -1,14 +1,6 @@
 -- What an event of a program changes of the counts: the tests that were started, the rows that were added, and the free slots.
-use Rattle.std.proofs.Common.{◌≡◌, ◌≢◌, arith, eqb, ℕ, ◌+◌, ◌≤◌, true, false, List, set, Option, None, Some, refl, sym, ap, subst}
-use Rattle.std.specs.Option.{option_eq}
-use Rattle.std.proofs.lemmas.Bool.{eqb-false, eqb-true}
-use Rattle.campaign_core.specs.declared.event.Event.{Event}
-use Rattle.campaign_core.specs.declared.event.Event.TheVariants.{Start, Turn, Commit, Stop}
-use Rattle.campaign_core.specs.Events.{Committed, IsUnchanged, Takes}
-use Rattle.campaign_core.specs.Keeping.{steps_of}
-use Rattle.campaign_core.specs.Running.{HasFree, IsWithin, Reached}
-use Rattle.campaign_core.specs.Testers.{Asked}
-use Rattle.campaign_core.specs.Turns.{Busy, IsIn, Turns}
+use Rattle.campaign_core.proofs.Common.{◌≡◌, ◌≢◌, arith, eqb, ℕ, ◌+◌, ◌≤◌, true, false, List, set, Option, None, Some, refl, sym, ap, subst, option_eq, eqb-false, eqb-true, Event, Start, Turn, Commit}
+use Rattle.campaign_core.proofs.Common.{Stop, Committed, IsUnchanged, Takes, steps_of, HasFree, IsWithin, Reached, Asked, Busy, IsIn, Turns}
 use Rattle.campaign_core.proofs.KeptLemmas.{busy_most}
 use Rattle.campaign_core.proofs.SlotLemmas.{count_set, length_set}
 

@@ -1,14 +1,6 @@
 -- How a program's run ends: at the rows asked for, where no event comes next, or at one that was refused.
-use Rattle.std.proofs.Common.{◌≡◌, ◌∙◌, inl, inr, arith, ℕ, ◌+◌, true, List, Option, Some, sym}
-use Rattle.std.specs.Prelude.{◌⊎◌}
-use Rattle.mcy_keeper.specs.declared.book.Book.{Book}
-use Rattle.campaign_core.specs.declared.event.Event.{Event}
-use Rattle.campaign_core.specs.Events.{IsUnchanged}
-use Rattle.campaign_core.specs.Laws.{Program}
-use Rattle.campaign_core.specs.Orders.{WantsNone, next_event}
-use Rattle.campaign_core.specs.Running.{Broke, HasFree, IsWithin, LeavesNext, Ran, Reached, Torn}
-use Rattle.campaign_core.specs.Testers.{Asked}
-use Rattle.campaign_core.specs.Turns.{Turns}
+use Rattle.campaign_core.proofs.Common.{◌≡◌, ◌∙◌, inl, inr, arith, ℕ, ◌+◌, true, List, Option, Some, sym, ◌⊎◌, Book, Event, IsUnchanged, Program, WantsNone, next_event, Broke, HasFree, IsWithin}
+use Rattle.campaign_core.proofs.Common.{LeavesNext, Ran, Reached, Torn, Asked, Turns}
 use Rattle.campaign_core.proofs.RunCounts.{within_more}
 use Rattle.campaign_core.proofs.Runs.{program_stays}
 

@@ -1,22 +1,9 @@
 -- The events of a program, one after the other.
-use Rattle.std.proofs.Common.{◌≡◌, ◌≢◌, ◌∙◌, ℕ, zero, suc, ◌+◌, ◌-◌, ◌<◌, Bool, true, false, cond, List, [], ◌∷◌, ◌++◌, length, slice_get, Option, None, Some, refl, ap, subst}
-use Rattle.std.specs.Prelude.{is_some, option_and_then, option_map}
-use Rattle.std.specs.Option.{option_or}
-use Rattle.result_book.specs.declared.goal.Want.{Want}
-use Rattle.campaign_core.specs.declared.event.Event.{Event}
-use Rattle.campaign_core.specs.declared.event.Event.TheVariants.{Turn, Commit, Stop}
-use Rattle.campaign_core.specs.Ahead.{events_left}
-use Rattle.campaign_core.specs.Events.{IsAllowed, Takes}
-use Rattle.campaign_core.specs.Laws.{Program}
-use Rattle.campaign_core.specs.Orders.{first_given, given_at, least_waiting, next_event, slot_gives, start_of}
-use Rattle.campaign_core.specs.Testers.{Asked, GivesTheSame}
-use Rattle.campaign_core.specs.Turns.{Busy, Turns, waits_for}
-use Rattle.campaign_core.specs.UnderWay.{IsUnderWay}
+use Rattle.campaign_core.proofs.Common.{◌≡◌, ◌≢◌, ◌∙◌, ℕ, zero, suc, ◌+◌, ◌-◌, ◌<◌, Bool, true, false, cond, List, [], ◌∷◌, ◌++◌, length, slice_get, Option, None, Some, refl, ap, subst, is_some}
+use Rattle.campaign_core.proofs.Common.{option_and_then, option_map, option_or, Want, Event, Turn, Commit, Stop, events_left, IsAllowed, Takes, Program, first_given, given_at, least_waiting}
+use Rattle.campaign_core.proofs.Common.{next_event, slot_gives, start_of, Asked, GivesTheSame, Busy, Turns, waits_for, IsUnderWay, same_Some}
 use Rattle.campaign_core.proofs.Endings.{takes_fewer}
 use Rattle.campaign_core.proofs.RunCounts.{takes_stays}
-
-some_is : {X : Type 0} (x y : X) → Some x ≡ Some y → x ≡ y
-some_is x y e = cc
 
 -- it gives the same words as at first
 pub same_through : (one two three : Asked → ℕ → Type 0) → GivesTheSame one two → GivesTheSame two three → GivesTheSame one three
@@ -38,7 +25,7 @@ module _ {T : Type 0} (s : Turns T) where
     where
       go : (o : Option Want) → option_map (start_of slot m) o ≡ Some e → ⊥
       go None h = let never : None ≡ Some e = h in cc
-      go (Some want) h = let never : start_of slot m want ≡ Stop = some_is (start_of slot m want) e h ∙ stop in cc
+      go (Some want) h = let never : start_of slot m want ≡ Stop = same_Some (start_of slot m want) e h ∙ stop in cc
 
   slot_no_stop : (slot : ℕ) (o : Option (Option Busy)) (e : Event) → given_at s slot o ≡ Some e → e ≢ Stop
   slot_no_stop slot None e is stop = let never : None ≡ Some e = is in cc
@@ -46,8 +33,8 @@ module _ {T : Type 0} (s : Turns T) where
   slot_no_stop slot (Some (Some busy)) e is stop = go (is_some busy.word) is
     where
       go : (b : Bool) → Some (cond b (Commit slot) (Turn slot)) ≡ Some e → ⊥
-      go true h = let never : Commit slot ≡ Stop = some_is (Commit slot) e h ∙ stop in cc
-      go false h = let never : Turn slot ≡ Stop = some_is (Turn slot) e h ∙ stop in cc
+      go true h = let never : Commit slot ≡ Stop = same_Some (Commit slot) e h ∙ stop in cc
+      go false h = let never : Turn slot ≡ Stop = same_Some (Turn slot) e h ∙ stop in cc
 
   given_no_stop : (slot n : ℕ) (e : Event) → first_given (slot_gives s) slot n ≡ Some e → e ≢ Stop
   given_no_stop slot zero e is stop = let never : None ≡ Some e = is in cc

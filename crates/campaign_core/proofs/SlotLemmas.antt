@@ -1,22 +1,9 @@
 -- Slots, one of which has something else.
-use Rattle.std.proofs.Common.{◌≡◌, ◌≢◌, inl, inr, arith, ℕ, zero, suc, ◌+◌, ◌<◌, ◌≤◌, Bool, true, false, true≢false, ◌||◌, cond, List, [], ◌∷◌, length, map, set, slice_get, Option, None, Some, refl, sym, ◌∙◌, ap}
-use Rattle.std.specs.Prelude.{◌⊎◌, ◌==◌, is_some, nat_lt}
-use Rattle.std.proofs.lemmas.Bool.{ltb-false, ltb-true}
-use Rattle.std.proofs.lemmas.Bool.Decides.{eqb_tells}
-use Rattle.std.proofs.lemmas.List.Sums.{sum_by-cons}
-use Rattle.campaign_core.specs.Events.{asked_and_word}
-use Rattle.campaign_core.specs.Testers.{Asked}
-use Rattle.campaign_core.specs.Turns.{Busy, IsIn, busy_count, is_in_slot, is_of}
+use Rattle.campaign_core.proofs.Common.{◌≡◌, ◌≢◌, inl, inr, arith, ℕ, zero, suc, ◌+◌, ◌<◌, Bool, true, false, true≢false, ◌||◌, cond, List, [], ◌∷◌, length, map, set, slice_get, Option, None, Some}
+use Rattle.campaign_core.proofs.Common.{refl, sym, ◌∙◌, ap, ◌⊎◌, ◌==◌, is_some, eqb_tells, sum_by-cons, asked_and_word, Asked, Busy, IsIn, busy_count, is_in_slot, is_of}
 
 some_is : {X : Type 0} (x y : X) → Some x ≡ Some y → x ≡ y
 some_is x y e = cc
-
-pub below_or_not : (a b : ℕ) → (a < b) ⊎ (b ≤ a)
-below_or_not a b = go (nat_lt a b) refl
-  where
-    go : (t : Bool) → nat_lt a b ≡ t → (a < b) ⊎ (b ≤ a)
-    go true e = inl (ltb-true a b e)
-    go false e = inr (ltb-false a b e)
 
 -- ---- places of a list
 

@@ -1,21 +1,11 @@
 -- How a slot stands, what it gives, and which events it allows.
-use Rattle.std.proofs.Common.{◌≡◌, ℕ, Bool, true, false, List, rules, slice_get, Option, None, Some, refl, sym, ◌∙◌, ap, subst}
-use Rattle.std.specs.Prelude.{option_map}
+use Rattle.campaign_core.proofs.Common.{◌≡◌, ℕ, Bool, true, false, List, rules, slice_get, Option, None, Some, refl, sym, ◌∙◌, ap, subst, option_map, Event, Turn, Commit, Answered, Seat, Work}
+use Rattle.campaign_core.proofs.Common.{Running, Ended, HasWord, IsAllowed, IsGoing, given_at, next_start, slot_gives, asked_of, busy_of, left_of, seen, word_of, answered_at, answered_by, by_word}
+use Rattle.campaign_core.proofs.Common.{raw_stage, stage_of, Busy, IsFree, IsIn, Turns}
 use denote.Enum.Bare.{sameb, same_true, true_same}
 use Rattle.campaign_core.specs.contracts.seat.Stage.{the_type}
-use Rattle.campaign_core.specs.declared.event.Event.{Event}
-use Rattle.campaign_core.specs.declared.event.Event.TheVariants.{Turn, Commit}
-use Rattle.campaign_core.specs.declared.seat.Answered.{Answered}
-use Rattle.campaign_core.specs.declared.seat.Seat.{Seat}
 use Rattle.campaign_core.specs.declared.seat.Stage.{Stage}
 use Rattle.campaign_core.specs.declared.seat.Stage.TheVariants.{Absent, Free, Going, Told}
-use Rattle.campaign_core.specs.declared.seat.Work.{Work}
-use Rattle.campaign_core.specs.declared.seat.Work.TheVariants.{Going as Running, Told as Ended}
-use Rattle.campaign_core.specs.Events.{HasWord, IsAllowed, IsGoing}
-use Rattle.campaign_core.specs.Orders.{given_at, next_start, slot_gives}
-use Rattle.campaign_core.specs.Seats.{asked_of, busy_of, left_of, seen, word_of}
-use Rattle.campaign_core.specs.Stages.{answered_at, answered_by, by_word, raw_stage, stage_of}
-use Rattle.campaign_core.specs.Turns.{Busy, IsFree, IsIn, Turns}
 use Rattle.campaign_core.proofs.KeptLemmas.{seat_at, seen_at}
 
 -- ---- as callers see it

@@ -1,17 +1,6 @@
 -- A test that is started in a slot, from what is kept before it to what is kept after it.
-use Rattle.std.proofs.Common.{◌≡◌, arith, ℕ, ◌+◌, ◌<◌, ◌≤◌, List, length, set, Option, None, Some, refl, sym, ap, subst}
-use Rattle.std.specs.Prelude.{option_map}
-use Rattle.std.proofs.lemmas.List.{length-map}
-use Rattle.result_book.specs.declared.goal.Want.{Want}
-use Rattle.result_book.proofs.Each.{length-each_from}
-use Rattle.campaign_core.specs.declared.seat.Seat.{Seat}
-use Rattle.campaign_core.specs.declared.seat.Work.TheVariants.{Going}
-use Rattle.campaign_core.specs.Events.{MayStart, Started, slot_after}
-use Rattle.campaign_core.specs.Kept.{IsKept}
-use Rattle.campaign_core.specs.Seats.{AreJobs, busy_of, seen}
-use Rattle.campaign_core.specs.Testers.{Asked, IsAskable, IsSame}
-use Rattle.campaign_core.specs.Turns.{Turns, waits_for}
-use Rattle.campaign_core.specs.UnderWay.{IsUnderWay}
+use Rattle.campaign_core.proofs.Common.{◌≡◌, arith, ℕ, ◌+◌, ◌<◌, ◌≤◌, List, length, set, Option, None, Some, refl, sym, ap, subst, option_map, length-map, Want, length-each_from, Seat, Going}
+use Rattle.campaign_core.proofs.Common.{MayStart, Started, slot_after, IsKept, AreJobs, busy_of, seen, Asked, IsAskable, IsSame, Turns, waits_for, IsUnderWay}
 use Rattle.campaign_core.proofs.KeptLemmas.{askable, jobs_set, jobs_still, started_kept, unchanged_kept}
 use Rattle.campaign_core.proofs.SlotLemmas.{inside}
 use Rattle.campaign_core.proofs.Taken.{job_here, started_by}

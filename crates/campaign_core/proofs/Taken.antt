@@ -1,21 +1,8 @@
 -- The events as the calls make them, from what is kept.
-use Rattle.std.proofs.Common.{◌≡◌, ◌∙◌, ℕ, zero, suc, ◌+◌, ◌<◌, ◌≤◌, List, [], ◌∷◌, ◌++◌, length, map, set, slice_get, Option, None, Some, refl, sym, ap, subst}
-use Rattle.std.specs.Prelude.{MatchOption, option_map}
-use Rattle.std.proofs.lemmas.Option.{slice_get-map}
-use Rattle.mcy_keeper.specs.declared.book.Entry.{Entry}
-use Rattle.result_book.specs.Campaigns.{IsWordOf}
-use Rattle.result_book.specs.States.{IsStateOf, Progress}
-use Rattle.campaign_core.specs.declared.seat.Seat.{Seat}
-use Rattle.campaign_core.specs.declared.seat.Work.{Work}
-use Rattle.campaign_core.specs.declared.seat.Work.TheVariants.{Going}
-use Rattle.campaign_core.specs.Events.{Committed, IsRowOf, IsUnchanged, Started, Turned, asked_and_word, slot_after}
-use Rattle.campaign_core.specs.Seats.{IsJobOf, asked_of, busy_of, left_of, seen, word_of}
-use Rattle.campaign_core.specs.Testers.{Asked, IsWordIn}
-use Rattle.campaign_core.specs.Turns.{Busy, Turns}
+use Rattle.campaign_core.proofs.Common.{◌≡◌, ◌∙◌, ℕ, zero, suc, ◌+◌, ◌<◌, ◌≤◌, List, [], ◌∷◌, ◌++◌, length, map, set, slice_get, Option, None, Some, refl, sym, ap, subst, MatchOption, option_map}
+use Rattle.campaign_core.proofs.Common.{slice_get-map, same_Some, Entry, IsWordOf, IsStateOf, Progress, Seat, Work, Going, Committed, IsRowOf, IsUnchanged, Started, Turned, asked_and_word, slot_after}
+use Rattle.campaign_core.proofs.Common.{IsJobOf, asked_of, busy_of, left_of, seen, word_of, Asked, IsWordIn, Busy, Turns}
 use Rattle.campaign_core.proofs.KeptLemmas.{seen_at, seen_set}
-
-some_is : {X : Type 0} (x y : X) → Some x ≡ Some y → x ≡ y
-some_is x y e = cc
 
 -- ---- the job of a seat
 
@@ -25,13 +12,13 @@ module _ {J : Type 0} (has : J → Type 0) (asked : J → Asked) (word : J → O
 
   pub job_here : (one : Seat J) (job : J) → one.work ≡ Going job → IsJobOf has asked word one job → (seat : Seat J) (other : J) → Some one ≡ Some seat → seat.work ≡ Going other → IsJobOf has asked word seat other
   job_here one job work is seat other same going =
-      let seats : one ≡ seat = some_is one seat same in
+      let seats : one ≡ seat = same_Some one seat same in
       let jobs : job ≡ other = same_job job other (sym work ∙ ap (λ (s : Seat J). s.work) seats ∙ going) in
       subst (λ (j : J). IsJobOf has asked word seat j) jobs (subst (λ (s : Seat J). IsJobOf has asked word s job) seats is)
 
   pub jobs_here : (one : Seat J) → ((job : J) → one.work ≡ Going job → IsJobOf has asked word one job) → (seat : Seat J) (other : J) → Some one ≡ Some seat → seat.work ≡ Going other → IsJobOf has asked word seat other
   jobs_here one each seat other same going =
-      let seats : one ≡ seat = some_is one seat same in
+      let seats : one ≡ seat = same_Some one seat same in
       subst (λ (s : Seat J). IsJobOf has asked word s other) seats (each other (ap (λ (s : Seat J). s.work) seats ∙ going))
 
 -- ---- the same in its place
@@ -43,7 +30,7 @@ map_set {X} {Y} f (y ∷ xs) (suc k) x = ap (λ (l : List Y). f y ∷ l) (map_se
 
 set_same : {X : Type 0} (xs : List X) (k : ℕ) (x : X) → slice_get xs k ≡ Some x → set xs k x ≡ xs
 set_same [] k x at = refl
-set_same {X} (y ∷ xs) zero x at = ap (λ (z : X). z ∷ xs) (sym (some_is y x at))
+set_same {X} (y ∷ xs) zero x at = ap (λ (z : X). z ∷ xs) (sym (same_Some y x at))
 set_same {X} (y ∷ xs) (suc k) x at = ap (λ (l : List X). y ∷ l) (set_same xs k x at)
 
 -- ---- the events

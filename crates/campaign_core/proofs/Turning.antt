@@ -1,22 +1,10 @@
 -- A turn of the job in a slot, from what is kept before it to what is kept after it.
-use Rattle.std.proofs.Common.{◌≡◌, ◌∙◌, ℕ, ◌<◌, List, length, get_or, set, slice_get, Option, None, Some, Result, Ok, Err, refl, sym, ap, subst}
-use Rattle.std.specs.Prelude.{MatchOption, OnErr}
-use Rattle.std.proofs.lemmas.Option.{get_or_from_slice_get}
-use Rattle.result_book.specs.declared.goal.Want.{Want}
-use Rattle.campaign_core.specs.declared.seat.Seat.{Seat}
-use Rattle.campaign_core.specs.declared.seat.Work.TheVariants.{Going}
-use Rattle.campaign_core.specs.Events.{IsGoing, IsUnchanged, Turned, slot_after}
-use Rattle.campaign_core.specs.Kept.{IsKept}
-use Rattle.campaign_core.specs.Seats.{AreJobs, IsJobOf, asked_of, left_of, seen, word_of}
-use Rattle.campaign_core.specs.Testers.{Asked, IsSame, IsWordIn}
-use Rattle.campaign_core.specs.Turns.{Busy, IsIn, Turns}
-use Rattle.campaign_core.specs.UnderWay.{IsUnderWay}
+use Rattle.campaign_core.proofs.Common.{◌≡◌, ◌∙◌, ℕ, ◌<◌, List, length, get_or, set, slice_get, Option, None, Some, Result, Ok, Err, refl, sym, ap, subst, MatchOption, OnErr, get_or_from_slice_get}
+use Rattle.campaign_core.proofs.Common.{same_Some, Want, Seat, Going, IsGoing, IsUnchanged, Turned, slot_after, IsKept, AreJobs, IsJobOf, asked_of, left_of, seen, word_of, Asked, IsSame, IsWordIn}
+use Rattle.campaign_core.proofs.Common.{Busy, IsIn, Turns, IsUnderWay}
 use Rattle.campaign_core.proofs.KeptLemmas.{jobs_set, seat_at, turned_kept, unchanged_kept}
 use Rattle.campaign_core.proofs.SlotLemmas.{inside}
 use Rattle.campaign_core.proofs.Taken.{jobs_here, refused_by, turned_by}
-
-some_is : {X : Type 0} (x y : X) → Some x ≡ Some y → x ≡ y
-some_is x y e = cc
 
 pub on_err : {X E : Type 0} (r : Result X E) (P : Type 0) → P → OnErr r P
 on_err (Ok x) P p = tt
@@ -32,7 +20,7 @@ module _ {T J : Type 0} (left : J → ℕ) (asked : J → Asked) (word : J → O
       let at : IsIn (seen left slots) slot going.busy = ap (λ (l : List (Option Busy)). slice_get l slot) (sym are) ∙ ap (λ (x : Turns T). slice_get x.slots slot) view_is ∙ going.at in
       let found = seat_at left slots slot going.busy at in
       let there : get_or slots slot d ≡ Some found.0 = get_or_from_slice_get slots slot (Some found.0) d found.1 in
-      let one : found.0 ≡ seat = some_is found.0 seat (sym there ∙ sym read ∙ is) in
+      let one : found.0 ≡ seat = same_Some found.0 seat (sym there ∙ sym read ∙ is) in
       (found.1 ∙ ap (λ (x : Seat J). Some (Some x)) one, ap (λ (x : Seat J). word_of x.work) (sym one) ∙ ap (λ (b : Busy). b.word) found.2 ∙ going.none)
 
   pub job_there : (job : J) → seat.work ≡ Going job → IsJobOf (has old.tester) asked word seat job

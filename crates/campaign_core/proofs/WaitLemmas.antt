@@ -1,14 +1,9 @@
 -- The leads of blocks of mutations, and the least mutation that waits.
-use Rattle.std.proofs.Common.{◌≡◌, ◌≢◌, inl, inr, arith, ℕ, zero, suc, ◌+◌, ◌*◌, ◌/◌, ◌<◌, ◌≤◌, Bool, true, false, true≢false, ◌&&◌, ◌==◌, List, [], ◌∷◌, length, get_or, set, slice_get, Option, None, Some, refl, sym, ◌∙◌, ap, subst}
-use Rattle.std.specs.Prelude.{MatchOption, is_some, option_and_then, option_map}
-use Rattle.std.specs.List.{position_from}
-use Rattle.std.specs.Option.{option_eq}
-use Rattle.std.proofs.lemmas.Bool.{and_parts}
-use Rattle.std.proofs.lemmas.Bool.Decides.{eqb_tells}
-use Rattle.std.proofs.lemmas.Option.{slice_get-get_or}
-use Rattle.result_book.specs.declared.goal.Want.{Want}
-use Rattle.campaign_core.specs.Waits.{AreLeads, IsLead, NoneWaits, block_size, want_at}
-use Rattle.campaign_core.proofs.SlotLemmas.{below_or_not, length_set, set_here, set_other}
+use Rattle.campaign_core.proofs.Common.{◌≡◌, ◌≢◌, inl, inr, arith, ℕ, zero, suc, ◌+◌, ◌*◌, ◌/◌, ◌<◌, ◌≤◌, Bool, true, false, true≢false, ◌&&◌, List, [], ◌∷◌, length, get_or, set, slice_get, Option}
+use Rattle.campaign_core.proofs.Common.{None, Some, refl, sym, ◌∙◌, ap, subst, MatchOption, is_some, option_and_then, option_map, position_from, option_eq, and_parts, eqb_tells, slice_get-get_or}
+use Rattle.campaign_core.proofs.Common.{Want, AreLeads, IsLead, NoneWaits, block_size, want_at, below_or_not}
+use Rattle.std.proofs.Common.{◌==◌}
+use Rattle.campaign_core.proofs.SlotLemmas.{length_set, set_here, set_other}
 
 -- ---- the least by its place
 
@@ -37,10 +32,6 @@ pub beyond : (wants : List (Option Want)) (k : ℕ) → length wants ≤ k → w
 beyond [] k past = refl
 beyond (w ∷ wants) zero past = absurd (omega arith)
 beyond (w ∷ wants) (suc k) past = beyond wants k (omega arith)
-
-pub lead_further : (wants : List (Option Want)) (from to more : ℕ) (lead : Option ℕ) → to ≤ more → ((k : ℕ) → to ≤ k → k < more → want_at wants k ≡ None) → IsLead wants from to lead → IsLead wants from more lead
-lead_further wants from to more None above none is = λ k low high. elim (below_or_not k to) [ inl h ↦ is k low h | inr h ↦ none k (omega (arith, h)) high ]
-lead_further wants from to more (Some m) above none is = record { low = is.low; high = omega (arith, is.high, above); waits = is.waits; none_before = is.none_before }
 
 -- the least behind some of which none waits
 pub lead_behind : (wants : List (Option Want)) (from mid to : ℕ) (lead : Option ℕ) → from ≤ mid → NoneWaits wants from mid → IsLead wants mid to lead → IsLead wants from to lead

@@ -1,16 +1,6 @@
 -- How what the mutations wait for changes with an event.
-use Rattle.std.proofs.Common.{◌≡◌, ◌≢◌, inl, inr, ℕ, Bool, true, false, cond, List, length, set, None, Some, refl, sym, ◌∙◌, ap}
-use Rattle.std.specs.Prelude.{◌==◌}
-use Rattle.std.proofs.lemmas.Bool.Decides.{eqb_tells}
-use Rattle.mcy_keeper.specs.declared.book.Entry.{Entry}
-use Rattle.result_book.specs.Goals.{wanted}
-use Rattle.result_book.specs.Scripts.{each_from}
-use Rattle.result_book.proofs.Each.{each_from-same, each_set}
-use Rattle.result_book.proofs.Wanting.{wanted-other}
-use Rattle.campaign_core.specs.Events.{Committed, IsUnchanged, MayStart, Started, Turned}
-use Rattle.campaign_core.specs.Testers.{Asked}
-use Rattle.campaign_core.specs.Turns.{Turns, is_in_slot, is_of, waiting, waits_for}
-use Rattle.campaign_core.specs.UnderWay.{IsBusy, IsUnderWay}
+use Rattle.campaign_core.proofs.Common.{◌≡◌, ◌≢◌, inl, inr, ℕ, Bool, true, false, cond, List, length, set, None, Some, refl, sym, ◌∙◌, ap, ◌==◌, eqb_tells, Entry, wanted, each_from, each_from-same}
+use Rattle.campaign_core.proofs.Common.{each_set, wanted-other, Committed, IsUnchanged, MayStart, Started, Turned, Asked, Turns, is_in_slot, is_of, waiting, waits_for, IsBusy, IsUnderWay}
 use Rattle.campaign_core.proofs.SlotLemmas.{in_no_slot, in_set, in_slot_now, in_slot_same, inside, same_tests_in}
 
 module _ {T : Type 0} (old new : Turns T) where

@@ -25,6 +25,8 @@ test_left limit rows m t = rows_left limit (word_in (answers_of m rows) t) (boun
 abbrev pub mutation_left : Campaign → ℕ → List Entry → ℕ → ℕ
 mutation_left c limit rows m = sum (each_from (test_left limit rows m) 0 (length c.kinds))
 
+-- For proofs alone.
+
 abbrev pub all_left : Campaign → ℕ → List Entry → ℕ
 all_left c limit rows = sum (each_from (mutation_left c limit rows) 0 (length c.mutations))
 

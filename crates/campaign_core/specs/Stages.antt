@@ -7,6 +7,8 @@ use Rattle.campaign_core.specs.declared.seat.Stage.TheVariants.{Absent, Free, Go
 use Rattle.campaign_core.specs.Seats.{word_of}
 use Rattle.campaign_core.specs.Turns.{Busy}
 
+-- For proofs alone.
+
 -- of a job with this word
 abbrev pub by_word : Option ℕ → Stage
 by_word None = Going

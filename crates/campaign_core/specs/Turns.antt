@@ -52,10 +52,6 @@ is_in_slot m slots = list_any (is_of m) slots
 abbrev pub busy_count : List (Option Busy) → ℕ
 busy_count slots = count_by is_some slots
 
--- what a run wants of each mutation
-abbrev pub all_wanted : Campaign → List Entry → Goal → List (Option Want)
-all_wanted c rows goal = each_from (λ m. wanted c rows m goal) 0 (length c.mutations)
-
 module _ {T : Type 0} where
   -- what a mutation waits for: what the run wants of it, while it is in no slot
   abbrev pub waits_for : Turns T → ℕ → Option Want
@@ -64,3 +60,9 @@ module _ {T : Type 0} where
   -- what each mutation waits for
   abbrev pub waiting : Turns T → List (Option Want)
   waiting s = each_from (waits_for s) 0 (length s.campaign.mutations)
+
+-- For proofs alone.
+
+-- what a run wants of each mutation
+abbrev pub all_wanted : Campaign → List Entry → Goal → List (Option Want)
+all_wanted c rows goal = each_from (λ m. wanted c rows m goal) 0 (length c.mutations)

@@ -2,6 +2,8 @@
 use Rattle.std.specs.Prelude.{◌≡◌, ℕ, ◌+◌, ◌*◌, ◌<◌, ◌≤◌, ◌^◌, true, List, length, slice_get, Option, None, Some, is_some, option_and_then}
 use Rattle.result_book.specs.declared.goal.Want.{Want}
 
+-- For proofs alone.
+
 -- what a mutation waits for, where there is such a mutation
 abbrev pub want_at : List (Option Want) → ℕ → Option Want
 want_at wants m = option_and_then (λ want. want) (slice_get wants m)

@@ -1,21 +1,10 @@
 -- A bench of a campaign fits its design, and each test has its place.
-use Rattle.std.proofs.Common.{◌≡◌, ◌<◌, ℕ, zero, suc, List, [], ◌∷◌, length, get_or, slice_get, Some, refl, sym, ap, subst, ◌∙◌}
-use Rattle.std.proofs.lemmas.List.{length-map}
+use Rattle.campaign_plan.proofs.Common.{◌≡◌, ◌<◌, ℕ, zero, suc, List, [], ◌∷◌, length, get_or, slice_get, Some, refl, sym, ap, subst, ◌∙◌, length-map, RawNetlist, TestKind, Eq, Sim, TestPlan}
+use Rattle.campaign_plan.proofs.Common.{Campaign, Prepared, Trial, Simulation, kind_of, test_kinds, numbers_in, AreTrials, IsTrial, Reading, IsPlan}
 use Rattle.std.proofs.lemmas.Option.{slice_get-get_or}
-use Rattle.netlist_core.specs.declared.raw.RawNetlist.{RawNetlist}
 use Rattle.tb_bench.specs.declared.parts.Parts.{Parts}
 use Rattle.tb_bench.specs.Runnable.{FitsDesign}
-use Rattle.project_file.specs.declared.project.TestKind.{TestKind}
-use Rattle.project_file.specs.declared.project.TestKind.TheVariants.{Eq, Sim}
-use Rattle.project_file.specs.declared.project.TestPlan.{TestPlan}
 use Rattle.project_benches.proofs.Fitting.{bench_fits}
-use Rattle.result_book.specs.declared.campaign.Campaign.{Campaign}
-use Rattle.campaign_plan.specs.declared.prepared.Prepared.{Prepared}
-use Rattle.campaign_plan.specs.declared.trial.Trial.{Trial}
-use Rattle.campaign_plan.specs.declared.trial.Trial.TheVariants.{Simulation}
-use Rattle.campaign_choice.specs.Projects.{kind_of, test_kinds}
-use Rattle.campaign_plan.specs.Trials.{numbers_in, AreTrials, IsTrial, Reading}
-use Rattle.campaign_plan.specs.Campaigns.{IsPlan}
 
 trial_fits : (r : Reading) (kind : TestKind) (bench : Parts) (pass fail : List ℕ) → IsTrial r kind (Simulation bench pass fail) → FitsDesign bench r.netlist
 trial_fits r Eq bench pass fail is = absurd is

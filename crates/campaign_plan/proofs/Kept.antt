@@ -1,14 +1,9 @@
 -- What a book keeps of a project and its sources determines them: the project, its scripts and the files.
-use Rattle.std.proofs.Common.{◌≡◌, ℕ, List, [], ◌∷◌, ◌++◌, map, codes, refl, sym, ap, subst, ◌∙◌, Result, Ok}
-use Rattle.std.proofs.lemmas.List.{append_cancel_left}
-use Rattle.mcy_base.specs.declared.file.SourceFile.{SourceFile}
-use Rattle.project_file.specs.declared.project.Project.{Project}
-use Rattle.project_file.specs.Projects.{IsProject}
+use Rattle.campaign_plan.proofs.Common.{◌≡◌, ℕ, List, [], ◌∷◌, ◌++◌, map, codes, refl, sym, ap, subst, ◌∙◌, Result, Ok, append_cancel_left, SourceFile, Project, IsProject, HasScripts, logic_read}
+use Rattle.campaign_plan.proofs.Common.{report_read, file_item, names_of}
 use Rattle.tag_script.specs.declared.script.Script.{Script}
 use Rattle.tag_script.specs.declared.script.ScriptError.{ScriptError}
 use Rattle.report_script.specs.declared.report.Report.{Report}
-use Rattle.campaign_choice.specs.Projects.{HasScripts, logic_read, report_read}
-use Rattle.campaign_choice.specs.Campaigns.{file_item, names_of}
 
 pub project_once : (config : List ℕ) (p q : Project) → IsProject config p → IsProject config q → p ≡ q
 project_once config p q h k = h.says ∙ sym k.says

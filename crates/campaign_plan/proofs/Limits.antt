@@ -1,8 +1,5 @@
 -- A campaign whose limit of cycles is to follow from its benches is one under any limit.
-use Rattle.std.proofs.Common.{◌≡◌, ◌∙◌, ℕ, false, List}
-use Rattle.mcy_base.specs.declared.file.SourceFile.{SourceFile}
-use Rattle.campaign_plan.specs.declared.prepared.Prepared.{Prepared}
-use Rattle.campaign_plan.specs.Campaigns.{IsPlan, IsPrepared}
+use Rattle.campaign_plan.proofs.Common.{◌≡◌, ◌∙◌, ℕ, false, List, SourceFile, Prepared, IsPlan, IsPrepared}
 
 -- under this limit, which is the project's where it does not follow from them
 pub prepared_limited : (config : List ℕ) (files : List SourceFile) (c : Prepared) (cycles : ℕ) → (c.auto_cycles ≡ false → cycles ≡ c.cycles) → IsPrepared config files c → IsPrepared config files (record c { cycles = cycles })

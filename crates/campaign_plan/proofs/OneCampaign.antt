@@ -1,20 +1,9 @@
 -- A project and its sources have one campaign.
-use Rattle.std.proofs.Common.{◌≡◌, ℕ, Bool, false, List, length, map, slice_get, sym, ap, subst, ◌∙◌}
-use Rattle.mcy_base.specs.declared.file.SourceFile.{SourceFile}
-use Rattle.netlist_core.specs.declared.raw.RawNetlist.{RawNetlist}
-use Rattle.project_file.specs.declared.project.Project.{Project}
-use Rattle.project_file.specs.Projects.{IsProject}
-use Rattle.project_limits.specs.Files.{all_files}
+use Rattle.campaign_plan.proofs.Common.{◌≡◌, ℕ, Bool, false, List, length, map, slice_get, sym, ap, subst, ◌∙◌, SourceFile, RawNetlist, Project, IsProject, all_files, netlists_are_one, skips_once}
+use Rattle.campaign_plan.proofs.Common.{Prepared, design_part, AreTrials, IsReading, Reading, campaign_of, file_item, meta_of, names_of, IsPlan, LeavesOut, IsSame, SameTests}
 use Rattle.project_benches.specs.Netlists.{HasNetlist}
-use Rattle.project_benches.proofs.OneAnswer.{netlists_are_one, skips_once}
-use Rattle.campaign_plan.specs.declared.prepared.Prepared.{Prepared}
 use Rattle.campaign_choice.specs.Mutations.{all_sites, picked_sites}
 use Rattle.campaign_choice.specs.Omitted.{omitted_sites}
-use Rattle.campaign_choice.specs.Projects.{design_part}
-use Rattle.campaign_plan.specs.Trials.{AreTrials, IsReading, Reading}
-use Rattle.campaign_choice.specs.Campaigns.{campaign_of, file_item, meta_of, names_of}
-use Rattle.campaign_plan.specs.Campaigns.{IsPlan, LeavesOut}
-use Rattle.campaign_plan.specs.Laws.{IsSame, SameTests}
 use Rattle.campaign_plan.proofs.Plans.{plan_meta}
 use Rattle.campaign_plan.proofs.Kept.{files_kept, project_once, report_once, script_once}
 use Rattle.campaign_plan.proofs.TrialLaws.{readings_are_one, trials_alike}

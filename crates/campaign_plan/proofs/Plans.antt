@@ -1,35 +1,19 @@
 -- What a plan's netlist is: small enough for the equivalence test where there is one, with the campaign's sites.
-use Rattle.std.proofs.Common.{◌≡◌, ℕ, zero, suc, ◌<◌, ◌≤◌, List, [], ◌∷◌, length, map, get_or, slice_get, Some, refl, sym, ◌∙◌, ap, subst, arith}
-use Rattle.std.proofs.lemmas.List.{length-map}
+use Rattle.campaign_plan.proofs.Common.{◌≡◌, ℕ, zero, suc, ◌<◌, ◌≤◌, List, [], ◌∷◌, length, map, get_or, slice_get, Some, refl, sym, ◌∙◌, ap, subst, arith, length-map, Prepared, all_files, IsProject}
+use Rattle.campaign_plan.proofs.Common.{Project, SourceFile, netlist_cells, Campaign, TestPlan, TestKind, Eq, Sim, kind_of, Trial, Equality, Simulation, AreTrials, IsTrial, Reading, code_of}
+use Rattle.campaign_plan.proofs.Common.{file_item, meta_of, names_of, IsPlan}
 use Rattle.mutation_sites.specs.declared.site.Site.{Site}
-use Rattle.campaign_plan.specs.declared.prepared.Prepared.{Prepared}
 use Rattle.project_limits.proofs.Sources.{sources_few}
-use Rattle.project_limits.specs.Files.{all_files}
-use Rattle.project_file.specs.Projects.{IsProject}
-use Rattle.project_file.specs.declared.project.Project.{Project}
-use Rattle.mcy_base.specs.declared.file.SourceFile.{SourceFile}
 use Rattle.project_limits.proofs.Sizes.{conflicts_within}
-use Rattle.project_benches.proofs.OneAnswer.{netlist_cells}
 use Rattle.std.specs.List.{Any}
-use Rattle.result_book.specs.declared.campaign.Campaign.{Campaign}
 use Rattle.result_book.specs.Campaigns.{IsFit}
 use Rattle.mutation_sites.specs.SiteTexts.{site_text}
 use Rattle.mutation_sites.specs.Mutants.{IsSite}
 use Rattle.netlist_core.specs.Checked.{free_bits, net_bits}
 use Rattle.pair_gates.specs.Refusals.{max_free}
 use Rattle.pair_gates.specs.Weights.{design_gates, max_design_gates}
-use Rattle.project_file.specs.declared.project.TestPlan.{TestPlan}
-use Rattle.project_file.specs.declared.project.TestKind.{TestKind}
-use Rattle.project_file.specs.declared.project.TestKind.TheVariants.{Eq, Sim}
-use Rattle.campaign_choice.specs.Projects.{kind_of}
-use Rattle.campaign_plan.specs.declared.trial.Trial.{Trial}
-use Rattle.campaign_plan.specs.declared.trial.Trial.TheVariants.{Equality, Simulation}
-use Rattle.campaign_plan.specs.Trials.{AreTrials, IsTrial, Reading}
-use Rattle.campaign_plan.specs.Laws.{code_of}
 use Rattle.campaign_choice.proofs.Chosen.{within-size}
 use Rattle.campaign_choice.proofs.Fits.{campaign_fits}
-use Rattle.campaign_choice.specs.Campaigns.{file_item, meta_of, names_of}
-use Rattle.campaign_plan.specs.Campaigns.{IsPlan}
 
 -- A test that is run as an equality is one.
 trial_equality : (r : Reading) (kind : TestKind) → IsTrial r kind Equality → kind ≡ Eq

@@ -1,18 +1,10 @@
 -- The tests of a project are run in one way, or there is one fault of the first that cannot be run.
-use Rattle.std.proofs.Common.{◌≡◌, inl, inr, ℕ, ◌+◌, zero, suc, List, [], ◌∷◌, slice_get, Some, sym, subst, ◌∙◌}
-use Rattle.mcy_base.specs.declared.file.SourceFile.{SourceFile}
-use Rattle.netlist_core.specs.declared.raw.RawNetlist.{RawNetlist}
+use Rattle.campaign_plan.proofs.Common.{◌≡◌, inl, inr, ℕ, ◌+◌, zero, suc, List, [], ◌∷◌, slice_get, Some, sym, subst, ◌∙◌, SourceFile, RawNetlist, TestKind, Eq, Sim, TestPlan, bench_without_fault}
+use Rattle.campaign_plan.proofs.Common.{benches_alike, faults_are_one, tops_are_one, Trial, Equality, Simulation, SameTests, numbers_in, AreTrials, HasNoTrial, IsReading, IsTrial, IsTrialFault}
+use Rattle.campaign_plan.proofs.Common.{Reading}
 use Rattle.source_trees.proofs.OneAnswer.{modules_are_one}
 use Rattle.project_benches.specs.SourceError.{SourceError}
-use Rattle.project_file.specs.declared.project.TestKind.{TestKind}
-use Rattle.project_file.specs.declared.project.TestKind.TheVariants.{Eq, Sim}
-use Rattle.project_file.specs.declared.project.TestPlan.{TestPlan}
 use Rattle.flat_items.specs.Tops.{IsTop}
-use Rattle.project_benches.proofs.OneAnswer.{bench_without_fault, benches_alike, faults_are_one, tops_are_one}
-use Rattle.campaign_plan.specs.declared.trial.Trial.{Trial}
-use Rattle.campaign_plan.specs.declared.trial.Trial.TheVariants.{Equality, Simulation}
-use Rattle.campaign_plan.specs.Laws.{SameTests}
-use Rattle.campaign_plan.specs.Trials.{numbers_in, AreTrials, HasNoTrial, IsReading, IsTrial, IsTrialFault, Reading}
 
 pub readings_are_one : (files : List SourceFile) (names : List (List ℕ)) (top : List ℕ) (netlist : RawNetlist) (a b : Reading) → IsReading files names top netlist a → IsReading files names top netlist b → a ≡ b
 readings_are_one files names top netlist a b h k =

@@ -23,10 +23,6 @@ pub record Reading : Type 0 where
   pub top : Module
   pub netlist : RawNetlist
 
--- what tests of these files are read from
-abbrev pub reading_of : List SourceFile → List Module → Module → RawNetlist → Reading
-reading_of files modules top netlist = record { names = map (λ file. file.name) files; modules = modules; top = top; netlist = netlist }
-
 -- the numbers, from here on, of those names that are among the files
 abbrev pub numbers_from : ℕ → (names files : List (List ℕ)) → List ℕ
 numbers_from number [] files = []
@@ -63,6 +59,12 @@ pub record IsReading (files : List SourceFile) (names : List (List ℕ)) (top : 
   pub read : AreRead files r.modules
   pub is_top : IsTop r.modules top r.top
   pub netlist_is : r.netlist ≡ netlist
+
+-- For proofs alone.
+
+-- what tests of these files are read from
+abbrev pub reading_of : List SourceFile → List Module → Module → RawNetlist → Reading
+reading_of files modules top netlist = record { names = map (λ file. file.name) files; modules = modules; top = top; netlist = netlist }
 
 -- the same, as what a test or the tests are refused for; want of memory may come always
 abbrev pub HasNoTrialFor : Reading → ℕ → TestKind → NetlistError → Type 0

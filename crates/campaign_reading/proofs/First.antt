@@ -1,17 +1,10 @@
 -- The modules of the first files stand first among those of all files.
-use Rattle.std.proofs.Common.{◌≡◌, ℕ, zero, suc, ◌+◌, List, [], ◌∷◌, ◌++◌, take, Bool, true, false, Option, None, Some, refl, sym, ap, subst, ◌∙◌, append_assoc, if◌then◌else◌}
-use Rattle.std.specs.List.{All}
+use Rattle.campaign_reading.proofs.Common.{◌≡◌, ℕ, zero, suc, ◌+◌, List, [], ◌∷◌, ◌++◌, take, Bool, true, false, Option, None, Some, refl, sym, ap, subst, ◌∙◌, append_assoc, if◌then◌else◌, All}
+use Rattle.campaign_reading.proofs.Common.{bytes_eq, IsUtf8, All-nil, All-cons, All-head, All-tail, SourceFile, RawNetlist, Module, max_tokens, AreGiven, AreModules, AreRead, HasNetlist}
 use Rattle.std.specs.Prelude.{IfNone, IsSome}
-use Rattle.std.specs.Str.{bytes_eq, IsUtf8}
-use Rattle.std.proofs.lemmas.List.Elements.{All-nil, All-cons, All-head, All-tail}
-use Rattle.mcy_base.specs.declared.file.SourceFile.{SourceFile}
-use Rattle.netlist_core.specs.declared.raw.RawNetlist.{RawNetlist}
 use Rattle.vlog_token.specs.declared.token.Token.{Token}
-use Rattle.vlog_syntax.specs.declared.module.Module.{Module}
-use Rattle.source_trees.specs.Files.{max_tokens, AreGiven, AreModules, AreRead}
 use Rattle.source_trees.proofs.OneAnswer.{modules_are_one}
 use Rattle.flat_items.specs.Flattened.{module_at, module_from}
-use Rattle.project_sources.specs.Netlists.{HasNetlist}
 
 take_texts : (n : ℕ) (files : List SourceFile) → All (λ (file : SourceFile). IsUtf8 file.bytes) files → All (λ (file : SourceFile). IsUtf8 file.bytes) (take n files)
 take_texts zero files each = All-nil (λ (file : SourceFile). IsUtf8 file.bytes)

@@ -1,3 +1,4 @@
+mod Common
 pub mod Trying
 pub mod First
 pub mod Takes

@@ -1,18 +1,12 @@
 -- What files hold is refused for one cause, or makes a campaign.
-use Rattle.std.proofs.Common.{◌≡◌, ◌≢◌, ◌⊎◌, inl, inr, arith, ℕ, ◌≤◌, List, length, refl, sym, ap, subst, ◌∙◌, Option, None, Some}
-use Rattle.mcy_base.specs.declared.file.SourceFile.{SourceFile}
-use Rattle.mcy_outside.specs.Files.{Held, Gives, IsLarge}
-use Rattle.project_file.specs.declared.project.Project.{Project}
-use Rattle.project_limits.specs.Files.{all_files}
-use Rattle.campaign_plan.specs.declared.prepared.Prepared.{Prepared}
-use Rattle.campaign_reading.specs.declared.refusal.Refusal.{Refusal}
-use Rattle.campaign_reading.specs.declared.refusal.Refusal.TheVariants.{ProjectBad as RefusedProject, ScriptBad as RefusedScript, SourceBad as RefusedSource, Missing as RefusedMissing, TooLarge as RefusedTooLarge, ReadFault as RefusedRead, Memory as RefusedMemory}
-use Rattle.campaign_choice.specs.Limits.{max_bytes}
-use Rattle.campaign_reading.specs.Files.{config_name, Exceeds, IsMade, Lacks}
-use Rattle.campaign_reading.specs.Reads.{AtProject, AtSources, HasProject, IsNext, IsUnmade, IsUntaken, IsUntakenDesign}
+use Rattle.campaign_reading.proofs.Common.{◌≡◌, ◌≢◌, ◌⊎◌, inl, inr, arith, ℕ, ◌≤◌, List, length, refl, sym, ap, subst, ◌∙◌, Option, None, Some, SourceFile, Held, Gives, IsLarge, Project, all_files}
+use Rattle.campaign_reading.proofs.Common.{Prepared, Refusal, max_bytes, config_name, Exceeds, IsMade, Lacks, AtProject, AtSources, HasProject, IsNext, IsUnmade, IsUntaken, IsUntakenDesign}
+use Rattle.campaign_reading.specs.declared.refusal.Refusal.TheVariants.{ProjectBad as RefusedProject, ScriptBad as RefusedScript, SourceBad as RefusedSource, Missing as RefusedMissing}
+use Rattle.campaign_reading.specs.declared.refusal.Refusal.TheVariants.{TooLarge as RefusedTooLarge, ReadFault as RefusedRead, Memory as RefusedMemory}
 use Rattle.campaign_reading.specs.Readable.{IsReadable}
 use Rattle.campaign_reading.specs.Laws.{FilesHaveOneCause, IsByFiles, ReadableFilesAreTaken, RefusedFilesMakeNone}
-use Rattle.campaign_reading.proofs.Takes.{given_same, IsThere, next_once, project_same, read_there, scripted_of, source_there, sources_same, untaken_design_not, untaken_design_once, untaken_not, untaken_once}
+use Rattle.campaign_reading.proofs.Takes.{given_same, IsThere, next_once, project_same, read_there, scripted_of, source_there, sources_same, untaken_design_not, untaken_design_once, untaken_not}
+use Rattle.campaign_reading.proofs.Takes.{untaken_once}
 
 -- What is held under a name: nothing, too much, or these bytes.
 data Found : Type 0 where

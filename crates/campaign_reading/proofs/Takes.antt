@@ -1,46 +1,24 @@
 -- Projects and their sources: each has one answer, and those that are taken have no other.
-use Rattle.std.proofs.Common.{◌≡◌, ◌≢◌, inl, inr, arith, Bool, true≢false, ℕ, List, [], ◌∷◌, length, refl, sym, ap, subst, ◌∙◌, ◌⊎◌, Option, None, Some, Result, Ok, Err}
-use Rattle.std.specs.Str.{IsUtf8}
+use Rattle.campaign_reading.proofs.Common.{◌≡◌, ◌≢◌, inl, inr, arith, Bool, true≢false, ℕ, List, [], ◌∷◌, length, refl, sym, ap, subst, ◌∙◌, ◌⊎◌, Option, None, Some, Result, Ok, Err, IsUtf8, All-head}
+use Rattle.campaign_reading.proofs.Common.{All-tail, SourceFile, Held, Gives, Project, IsCut, IsFault, IsProject, Refusal, PrepareError, Unprepared, ShortOfMemory, max_bytes, IsWithinLimits}
+use Rattle.campaign_reading.proofs.Common.{all_files, design_part, HasScripts, IsScripted, logic_read, report_read, Prepared, names_of, config_name, Got, GotAll, IsMade, IsPrepared, LeavesOut}
+use Rattle.campaign_reading.proofs.Common.{IsExcess, lacks_sites, GotSources, HasDesign, HasNoBenches, HasNoDesign, HasNoSites, HasProject, HasSites, LacksSites, IsNext, IsRead, IsRefusedAsLarge}
+use Rattle.campaign_reading.proofs.Common.{IsSourceBad, IsTooLarge, IsUnmade, IsUnprepared, refused_as, IsUnscripted, IsUntaken, IsUntakenDesign, Trial, AreTrials, IsReading, IsTrialFault, Reading}
+use Rattle.campaign_reading.proofs.Common.{Module, AreRead, RawNetlist, SourceError, too_many, HasNoModules}
 use Rattle.std.proofs.Math.Seq.{take-length}
 use Rattle.std.proofs.lemmas.Str.{utf8_valid_len-IsValidUpTo}
-use Rattle.std.proofs.lemmas.List.Elements.{All-head, All-tail}
-use Rattle.mcy_base.specs.declared.file.SourceFile.{SourceFile}
-use Rattle.mcy_outside.specs.Files.{Held, Gives}
 use Rattle.project_lines.specs.declared.error.ProjectError.{ProjectError}
 use Rattle.project_lines.specs.declared.error.ProjectError.TheVariants.{NotUtf8}
-use Rattle.project_file.specs.declared.project.Project.{Project}
-use Rattle.project_file.specs.Projects.{IsCut, IsFault, IsProject}
-use Rattle.campaign_reading.specs.declared.refusal.Refusal.{Refusal}
-use Rattle.campaign_reading.specs.declared.preparing.PrepareError.{PrepareError}
-use Rattle.campaign_reading.specs.declared.preparing.PrepareError.TheVariants.{Source as Unprepared, Memory as ShortOfMemory}
 use Rattle.campaign_reading.specs.declared.refusal.Refusal.TheVariants.{ProjectBad, ScriptBad, SourceBad, Memory}
 use Rattle.tag_script.specs.declared.script.Script.{Script}
 use Rattle.tag_script.specs.declared.script.ScriptError.{ScriptError}
 use Rattle.report_script.specs.declared.report.Report.{Report}
-use Rattle.campaign_choice.specs.Limits.{max_bytes, IsWithinLimits}
-use Rattle.project_limits.specs.Files.{all_files}
-use Rattle.campaign_choice.specs.Projects.{design_part, HasScripts, IsScripted, logic_read, report_read}
-use Rattle.campaign_plan.specs.declared.prepared.Prepared.{Prepared}
-use Rattle.campaign_choice.specs.Campaigns.{names_of}
-use Rattle.campaign_reading.specs.Files.{config_name, Got, GotAll, IsMade}
-use Rattle.campaign_plan.specs.Campaigns.{IsPrepared, LeavesOut}
-use Rattle.campaign_choice.specs.Limits.{IsExcess}
-use Rattle.campaign_choice.specs.Omitted.{lacks_sites}
-use Rattle.campaign_reading.specs.Reads.{GotSources, HasDesign, HasNoBenches, HasNoDesign, HasNoSites, HasProject, HasSites, LacksSites, IsNext, IsRead, IsRefusedAsLarge, IsSourceBad, IsTooLarge, IsUnmade, IsUnprepared, refused_as, IsUnscripted, IsUntaken, IsUntakenDesign}
-use Rattle.campaign_plan.specs.declared.trial.Trial.{Trial}
-use Rattle.campaign_plan.specs.Trials.{AreTrials, IsReading, IsTrialFault, Reading}
 use Rattle.campaign_plan.proofs.Kept.{project_once}
 use Rattle.campaign_plan.proofs.OneCampaign.{leaves_once}
 use Rattle.campaign_plan.proofs.TrialLaws.{readings_are_one, trial_faults_are_one, trials_without_fault}
-use Rattle.vlog_syntax.specs.declared.module.Module.{Module}
-use Rattle.source_trees.specs.Files.{AreRead}
 use Rattle.source_trees.proofs.OneAnswer.{read_without_fault}
 use Rattle.mcy_base.specs.declared.kind.Kind.{Kind}
 use Rattle.mcy_base.specs.declared.kind.Kind.TheVariants.{FreeBits, Gates, Sites}
-use Rattle.netlist_core.specs.declared.raw.RawNetlist.{RawNetlist}
-use Rattle.source_faults.specs.declared.fault.SourceError.{SourceError}
-use Rattle.source_faults.specs.Faults.{too_many}
-use Rattle.project_sources.specs.Netlists.{HasNoModules}
 use Rattle.project_sources.proofs.OneAnswer.{faults_are_one, netlist_without_fault, netlists_are_one}
 
 -- Project files.

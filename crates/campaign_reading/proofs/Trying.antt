@@ -1,43 +1,18 @@
 -- Tests that are read one after the other.
-use Rattle.std.proofs.Common.{◌≡◌, inl, inr, ℕ, ◌+◌, ◌<◌, ◌≤◌, Bool, true, false, List, [], ◌∷◌, ◌++◌, length, map, take, drop, get_or, add-one, take-suc, drop-cons, take-append-drop, length-take-le, append_assoc, append-nil, sym, ap, subst, ◌∙◌, arith, if◌then◌else◌}
-use Rattle.mcy_base.specs.declared.file.SourceFile.{SourceFile}
+use Rattle.campaign_reading.proofs.Common.{◌≡◌, inl, inr, ℕ, ◌+◌, ◌<◌, List, [], ◌∷◌, ◌++◌, length, map, take, drop, get_or, add-one, take-suc, drop-cons, take-append-drop, length-take-le, sym, ap}
+use Rattle.campaign_reading.proofs.Common.{subst, ◌∙◌, arith, SourceFile, SourceError, Trial, numbers_from, numbers_in, AreTrials, HasNoTrial, HasNoTrialFor, HasNoTrials, IsTrial, IsTrialFault}
+use Rattle.campaign_reading.proofs.Common.{Reading}
 use Rattle.project_file.specs.declared.project.TestKind.{TestKind}
 use Rattle.project_file.specs.declared.project.TestKind.TheVariants.{Sim}
 use Rattle.campaign_plan.specs.Benches.{HasNoBench}
 use Rattle.project_file.specs.declared.project.TestPlan.{TestPlan}
-use Rattle.project_lines.specs.Words.{is_among}
-use Rattle.project_lines.proofs.Faults.{mapped_drop, mapped_end}
-use Rattle.source_faults.specs.declared.fault.SourceError.{SourceError}
 use Rattle.project_sources.specs.declared.netlist.NetlistError.{NetlistError}
 use Rattle.project_sources.specs.declared.netlist.NetlistError.TheVariants.{Source as Refused, Memory}
-use Rattle.campaign_plan.specs.declared.trial.Trial.{Trial}
-use Rattle.campaign_plan.specs.Trials.{numbers_from, numbers_in, AreTrials, HasNoTrial, HasNoTrialFor, HasNoTrials, IsTrial, IsTrialFault, Reading}
 
 -- Numbers of files.
 
-number_listed : (number : ℕ) (name : List ℕ) (more names : List (List ℕ)) → is_among name names ≡ true → numbers_from number (name ∷ more) names ≡ number ∷ numbers_from (number + 1) more names
-number_listed number name more names is = ap (λ (b : Bool). if b then number ∷ numbers_from (number + 1) more names else numbers_from (number + 1) more names) is
-
-number_left : (number : ℕ) (name : List ℕ) (more names : List (List ℕ)) → is_among name names ≡ false → numbers_from number (name ∷ more) names ≡ numbers_from (number + 1) more names
-number_left number name more names is = ap (λ (b : Bool). if b then number ∷ numbers_from (number + 1) more names else numbers_from (number + 1) more names) is
-
 abbrev rest : ℕ → List SourceFile → List (List ℕ) → List ℕ
 rest number files names = numbers_from number (map (λ file. file.name) (drop number files)) names
-
-pub numbers_more : (items all : List ℕ) (number : ℕ) (files : List SourceFile) (names : List (List ℕ)) (d : SourceFile) → number < length files → is_among (get_or files number d).name names ≡ true → items ++ rest number files names ≡ all → (items ++ number ∷ []) ++ rest (number + 1) files names ≡ all
-numbers_more items all number files names d below is held =
-    let here : rest number files names ≡ number ∷ rest (number + 1) files names = ap (λ ns. numbers_from number ns names) (mapped_drop (λ (file : SourceFile). file.name) files number d below) ∙ number_listed number (get_or files number d).name (map (λ file. file.name) (drop (number + 1) files)) names is in
-    append_assoc items (number ∷ []) (rest (number + 1) files names) ∙ ap (λ r. items ++ r) (sym here) ∙ held
-
-pub numbers_less : (items all : List ℕ) (number : ℕ) (files : List SourceFile) (names : List (List ℕ)) (d : SourceFile) → number < length files → is_among (get_or files number d).name names ≡ false → items ++ rest number files names ≡ all → items ++ rest (number + 1) files names ≡ all
-numbers_less items all number files names d below is held =
-    let here : rest number files names ≡ rest (number + 1) files names = ap (λ ns. numbers_from number ns names) (mapped_drop (λ (file : SourceFile). file.name) files number d below) ∙ number_left number (get_or files number d).name (map (λ file. file.name) (drop (number + 1) files)) names is in
-    ap (λ r. items ++ r) (sym here) ∙ held
-
-pub numbers_end : (items all : List ℕ) (number : ℕ) (files : List SourceFile) (names : List (List ℕ)) → length files ≤ number → items ++ rest number files names ≡ all → items ≡ all
-numbers_end items all number files names over held =
-    let none : rest number files names ≡ [] = ap (λ ns. numbers_from number ns names) (mapped_end (λ (file : SourceFile). file.name) files number over) in
-    sym (append-nil items) ∙ ap (λ r. items ++ r) (sym none) ∙ held
 
 -- Tests.
 

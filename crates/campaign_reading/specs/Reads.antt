@@ -66,10 +66,6 @@ pub record GotSources (held : Option Held) (project : Project) (files : List Sou
 abbrev pub IsTooLarge : Project → RawNetlist → SourceError → Type 0
 IsTooLarge project netlist error = (kind : Kind) × IsExcess project netlist kind × (error ≡ too_many kind)
 
-abbrev pub IsRefusedAsLarge : Project → RawNetlist → PrepareError → Type 0
-IsRefusedAsLarge project netlist (Unprepared error) = IsTooLarge project netlist error
-IsRefusedAsLarge project netlist ShortOfMemory = ⊤
-
 -- the files are modules, and those of the design have this netlist
 pub record HasDesign (project : Project) (files : List SourceFile) (netlist : RawNetlist) : Type 0 where
   pub modules : List Module
@@ -94,11 +90,6 @@ pub record LacksSites (project : Project) (files : List SourceFile) (netlist : R
   pub left_out : LeavesOut project files netlist omitted
   pub none : lacks_sites omitted ≡ true
   pub is : error ≡ no_sites
-
--- as what it is refused for
-abbrev pub IsRefusedWithoutSites : Project → List SourceFile → RawNetlist → PrepareError → Type 0
-IsRefusedWithoutSites project files netlist (Unprepared error) = LacksSites project files netlist error
-IsRefusedWithoutSites project files netlist ShortOfMemory = ⊤
 
 -- the project leaves out all sites of the design, which is not too large
 pub record HasNoSites (project : Project) (files : List SourceFile) (error : SourceError) : Type 0 where
@@ -131,11 +122,6 @@ IsSourceBad project files error =
 abbrev pub IsUnprepared : Project → List SourceFile → PrepareError → Type 0
 IsUnprepared project files (Unprepared error) = IsSourceBad project files error
 IsUnprepared project files ShortOfMemory = ⊤
-
--- why a test of the project has no bench for this netlist of its design
-abbrev pub IsUnbenched : Project → List SourceFile → RawNetlist → PrepareError → Type 0
-IsUnbenched project files netlist (Unprepared error) = (r : Reading) × IsReading files (names_of files) project.top netlist r × IsTrialFault r 0 project.tests error
-IsUnbenched project files netlist ShortOfMemory = ⊤
 
 -- what the refusal of a netlist, or of a bench, is
 abbrev pub prepare_error : NetlistError → PrepareError
@@ -176,6 +162,27 @@ IsUnmade held (ReadFault name) = IsRead held name
 IsUnmade held (SourceBad error) = AtSources held (SourceBad error)
 IsUnmade held Memory = ⊤
 
+-- a fault of reading comes only where the count rose
+abbrev pub HasReadCause : ℕ → ℕ → Refusal → Type 0
+HasReadCause before now (ReadFault name) = Rose before now
+HasReadCause before now refusal = ⊤
+
+-- For proofs alone.
+
+abbrev pub IsRefusedAsLarge : Project → RawNetlist → PrepareError → Type 0
+IsRefusedAsLarge project netlist (Unprepared error) = IsTooLarge project netlist error
+IsRefusedAsLarge project netlist ShortOfMemory = ⊤
+
+-- as what it is refused for
+abbrev pub IsRefusedWithoutSites : Project → List SourceFile → RawNetlist → PrepareError → Type 0
+IsRefusedWithoutSites project files netlist (Unprepared error) = LacksSites project files netlist error
+IsRefusedWithoutSites project files netlist ShortOfMemory = ⊤
+
+-- why a test of the project has no bench for this netlist of its design
+abbrev pub IsUnbenched : Project → List SourceFile → RawNetlist → PrepareError → Type 0
+IsUnbenched project files netlist (Unprepared error) = (r : Reading) × IsReading files (names_of files) project.top netlist r × IsTrialFault r 0 project.tests error
+IsUnbenched project files netlist ShortOfMemory = ⊤
+
 -- why the file of this name is not read
 abbrev pub IsUnread : Option Held → List ℕ → Refusal → Type 0
 IsUnread held name (Missing which) = (which ≡ name) × Lacks held name
@@ -187,8 +194,3 @@ IsUnread held name refusal = ⊥
 -- why these files are not all read
 abbrev pub IsUnreadAmong : Option Held → List (List ℕ) → Refusal → Type 0
 IsUnreadAmong held names refusal = (name : List ℕ) × IsNext held names name × IsUnread held name refusal
-
--- a fault of reading comes only where the count rose
-abbrev pub HasReadCause : ℕ → ℕ → Refusal → Type 0
-HasReadCause before now (ReadFault name) = Rose before now
-HasReadCause before now refusal = ⊤

@@ -34,12 +34,14 @@ pub record IsTestable (c : Prepared) : Type 0 where
   pub plan : IsPlan c
   pub limit : HasItsLimit c
 
--- the limit by these baselines
-abbrev pub cycles_by : Prepared → List Baseline → ℕ
-cycles_by c list = if c.auto_cycles then auto_cycles list else c.cycles
-
 -- With this limit the campaign can be run: its baselines pass where the project asks for it.
 pub record IsLimitOf (c : Prepared) (cycles : ℕ) : Type 0 where
   pub passes : PassesBaselines (record c { cycles = cycles })
   pub limit : HasItsLimit (record c { cycles = cycles })
   pub same : c.auto_cycles ≡ false → cycles ≡ c.cycles
+
+-- For proofs alone.
+
+-- the limit by these baselines
+abbrev pub cycles_by : Prepared → List Baseline → ℕ
+cycles_by c list = if c.auto_cycles then auto_cycles list else c.cycles

@@ -16,10 +16,6 @@ abbrev pub IsWithin : Option ℕ → ℕ → ℕ → Type 0
 IsWithin None before now = ⊤
 IsWithin (Some stop) before now = now ≤ before + stop
 
--- the book of the campaign with these rows, in the format in which books are begun
-abbrev pub book_of : Prepared → List Entry → Book
-book_of c rows = record { meta = c.campaign.meta; mutations = c.campaign.mutations; journal = rows }
-
 -- no mutation wants a test under the goal
 abbrev pub WantsNone : Prepared → Goal → List Entry → Type 0
 WantsNone c goal rows = (m : ℕ) → m < length c.campaign.mutations → wanted c.campaign rows m goal ≡ None
@@ -32,6 +28,12 @@ IsWanted c goal earlier e = wanted c.campaign earlier e.mutation goal ≡ Some (
 abbrev pub AreWanted : Prepared → Goal → (earlier rows : List Entry) → Type 0
 AreWanted c goal earlier [] = Unit {0}
 AreWanted c goal earlier (e ∷ more) = IsWanted c goal earlier e × AreWanted c goal (earlier ++ e ∷ []) more
+
+-- For proofs alone.
+
+-- the book of the campaign with these rows, in the format in which books are begun
+abbrev pub book_of : Prepared → List Entry → Book
+book_of c rows = record { meta = c.campaign.meta; mutations = c.campaign.mutations; journal = rows }
 
 -- the campaign's run went on from one list of rows to the other
 pub record Ran (c : Prepared) (goal : Goal) (start end : List Entry) : Type 0 where

@@ -1,15 +1,8 @@
 -- Items of a case up to a place, the last item, and items that match whatever the selector is.
-use Rattle.std.proofs.Common.{◌≡◌, zero, suc, ℕ, ◌<◌, ◌≤◌, ◌+◌, ◌-◌, Bool, true, false, List, [], ◌∷◌, map, refl, sym, ap, ◌∙◌, subst, arith, length, get_or, take}
-use Rattle.std.specs.Prelude.{Option, None, Some, if◌then◌else◌}
-use Rattle.std.specs.Option.{option_map}
-use Rattle.vlog_syntax.specs.declared.expr.Expr.{Expr}
-use Rattle.vlog_syntax.specs.declared.stmt.CaseItem.{CaseItem, out-CaseItem}
+use Rattle.case_arms.proofs.Common.{◌≡◌, zero, suc, ℕ, ◌<◌, ◌≤◌, ◌+◌, Bool, true, false, List, [], ◌∷◌, map, refl, sym, ap, ◌∙◌, subst, arith, length, get_or, take, Option, None, Some, if◌then◌else◌}
+use Rattle.case_arms.proofs.Common.{option_map, Expr, CaseItem, out-CaseItem, is_empty, item_steps, Steps, Selection, Arms, Otherwise, Arm, InNames, Item, always, default_of, labelled, done_by, front}
+use Rattle.case_arms.proofs.Common.{last_body, names_all, arms_of, chosen_arms, step_of, item_of, steps_of, labels_in, item_body, labels_at, arms_with, arms_within, NoneFree, IsFirstFree}
 use Rattle.vlog_syntax.specs.declared.stmt.Stmt.TheFolds.{fold_out-CaseItem}
-use Rattle.vlog_meaning.specs.Senses.{is_empty}
-use Rattle.vlog_effects.specs.Laws.{item_steps}
-use Rattle.vlog_effects.specs.Steps.{Steps, Selection, Arms, Otherwise, Arm, InNames, Item, always, default_of, labelled, done_by, front, last_body, names_all, arms_of, chosen_arms, step_of, item_of, steps_of}
-use Rattle.elab_proc.specs.Refusals.{labels_in}
-use Rattle.case_arms.specs.Arms.{item_body, labels_at, arms_with, arms_within, NoneFree, IsFirstFree}
 
 -- an item, with its parts
 abbrev opened : CaseItem → Item

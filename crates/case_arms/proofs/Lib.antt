@@ -1,2 +1,3 @@
+mod Common
 pub mod Bounds
 pub mod Values

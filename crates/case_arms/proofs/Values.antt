@@ -1,22 +1,12 @@
 -- The values that labels name, one label more at a time.
-use Rattle.std.proofs.Common.{◌≡◌, zero, suc, ℕ, ◌<◌, ◌≤◌, ◌^◌, Bool, true, false, ◌&&◌, ◌||◌, nat_eq, nat_le, map, List, [], ◌∷◌, ◌++◌, refl, sym, ap, ◌∙◌, arith, length, get_or, take}
-use Rattle.std.specs.Prelude.{not, if◌then◌else◌}
-use Rattle.std.specs.List.{flat_map}
+use Rattle.case_arms.proofs.Common.{◌≡◌, zero, suc, ℕ, ◌<◌, ◌≤◌, ◌^◌, Bool, true, false, ◌&&◌, ◌||◌, nat_eq, nat_le, map, List, [], ◌∷◌, ◌++◌, refl, sym, ap, ◌∙◌, arith, length, get_or, take, not}
+use Rattle.case_arms.proofs.Common.{if◌then◌else◌, flat_map, Expr, CaseItem, Shape, Names, nothing, sense, item_steps, Selection, dont_care, is_named, all_named, selector_bits, names_all, greatest}
+use Rattle.case_arms.proofs.Common.{all_signed, labels_of, selection_of, labels_in, common_size, labels_same, IsOf, has, has_all}
 use Rattle.std.proofs.lemmas.Bool.Decides.{nat_tests}
 use Rattle.std.proofs.lemmas.List.Folds.{list_any-append}
-use Rattle.vlog_syntax.specs.declared.expr.Expr.{Expr}
-use Rattle.vlog_syntax.specs.declared.stmt.CaseItem.{CaseItem}
 use Rattle.vlog_syntax.specs.declared.stmt.CaseKind.{CaseKind}
-use Rattle.vlog_meaning.specs.declared.shapes.Shape.{Shape}
-use Rattle.vlog_meaning.specs.Scopes.{Names, nothing}
-use Rattle.vlog_meaning.specs.Senses.{sense}
 use Rattle.vlog_effects.specs.Expressions.{width_of, is_signed_of, value, is_constant}
-use Rattle.vlog_effects.specs.Laws.{item_steps}
-use Rattle.vlog_effects.specs.Steps.{Selection, dont_care, is_named, all_named, selector_bits, names_all, greatest, all_signed, labels_of, selection_of}
 use Rattle.vlog_effects.specs.Selectors.{keeps_width}
-use Rattle.elab_proc.specs.Refusals.{labels_in, common_size}
-use Rattle.elab_proc.proofs.StepLemmas.{labels_same}
-use Rattle.case_arms.specs.Naming.{IsOf, has, has_all}
 
 abbrev named : Selection → ℕ → Expr → Bool
 named c v x = is_constant c.names x && (nat_eq (dont_care c.kind x) 0 && nat_eq (value c.names nothing c.width c.is_signed x) v)

@@ -14,11 +14,6 @@ item_body [] k = λ names. Done
 item_body (i ∷ more) zero = steps_of (out-CaseItem i).body
 item_body (i ∷ more) (suc k) = item_body more k
 
-abbrev pub labels_at : List CaseItem → ℕ → List Expr
-labels_at [] k = []
-labels_at (i ∷ more) zero = labels_in i
-labels_at (i ∷ more) (suc k) = labels_at more k
-
 -- these items as arms, and what is done where none of them matches
 abbrev pub arms_with : Selection → List Item → Steps → Arms
 arms_with c [] last = Otherwise last
@@ -27,6 +22,13 @@ arms_with c (i ∷ more) last = Arm i.place i.labels (i.body c.names) (arms_with
 -- the items with labels before a place as arms, and the body of an item where none of them matches
 abbrev pub arms_by : Selection → List CaseItem → Chosen → Arms
 arms_by c items chosen = arms_with c (labelled (map item_steps (take chosen.before items))) (done_by (option_map (item_body items) chosen.last) c.names)
+
+-- For proofs alone.
+
+abbrev pub labels_at : List CaseItem → ℕ → List Expr
+labels_at [] k = []
+labels_at (i ∷ more) zero = labels_in i
+labels_at (i ∷ more) (suc k) = labels_at more k
 
 -- the same, up to an item that matches whatever the selector is
 abbrev pub arms_within : Selection → List CaseItem → Chosen → Arms

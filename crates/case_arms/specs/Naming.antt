@@ -6,6 +6,8 @@ use Rattle.vlog_meaning.specs.declared.shapes.Shape.{Shape}
 use Rattle.vlog_meaning.specs.Scopes.{Names}
 use Rattle.vlog_effects.specs.Steps.{Selection}
 
+-- For proofs alone.
+
 -- a case of this kind, in these names and at this size
 pub record IsOf (c : Selection) (names : Names) (kind : CaseKind) (size : Shape) : Type 0 where
   pub names_are : c.names ≡ names

@@ -7,8 +7,7 @@ ghost use Rattle.vlog_meaning.specs.Senses.{sense, IsWhole, IsContext};
 ghost use Rattle.vlog_effects.specs.Expressions.{is_constant};
 ghost use Rattle.vlog_effects.specs.Laws.{item_steps};
 ghost use Rattle.vlog_effects.specs.Steps.{Selection, dont_care, is_named, names_all, selection_of};
-ghost use Rattle.elab_proc.specs.Refusals.{wrong, labels_in};
-ghost use Rattle.elab_proc.specs.Sizes.{AllWithin, LabelsWithin};
+ghost use Rattle.elab_proc.specs.Refusals.{wrong, labels_in, AllWithin, LabelsWithin};
 ghost use Rattle.case_arms.specs.Naming.{IsOf, has, has_all};
 
 use crate::selector::selector_bits;

@@ -1,39 +1,20 @@
 -- What cells add: kind by kind, the value of Y and the number of gates.
-use Rattle.std.proofs.Common.{◌≡◌, ℕ, ◌+◌, ◌-◌, ◌*◌, ◌%◌, ◌^◌, ◌≤◌, max, Bool, true, false, not, List, [], ◌∷◌, ◌++◌, length, map, take, drop, replicate, refl, sym, ap, subst, ◌∙◌, arith, if◌then◌else◌}
-use Rattle.std.specs.Prelude.{bit_and, bit_or, bit_xor}
-use Rattle.std.specs.List.{All, fold}
-use Rattle.std.proofs.lemmas.List.{length-map, length-replicate, length-append, length-take, map-append, take-map}
-use Rattle.std.proofs.lemmas.List.Elements.{All-nil, All-cons, All-head, All-tail, All-append, All-take, All-replicate}
-use Rattle.std.proofs.Math.Nat.{mul-le-mul_left}
-use Rattle.clause_store.specs.Clauses.{Values}
-use Rattle.netlist_core.specs.declared.cell.CellKind.{CellKind}
-use Rattle.netlist_core.specs.declared.cell.CellKind.TheVariants.{Not, Neg, And, Or, Xor, Xnor, Add, Sub, Mul, Lt, Le, Gt, Ge, Eq, Ne, Shl, Shr, Sshr, Rand, Ror, Rxor, Rnand, Rnor, Rxnor, Lnot, Land, Lor, Mux, Pick, Put}
-use Rattle.netlist_core.specs.declared.shape.Shape.{Shape}
-use Rattle.netlist_core.specs.declared.shape.Shape.TheVariants.{Unary, Binary, Relation, Shift, Reduction, Logical, Choice, Selection, Insertion}
-use Rattle.netlist_core.specs.Numbers.{digit, number}
-use Rattle.netlist_core.specs.Cells.{all_ones, some_one, odd_ones, laid_at}
-use Rattle.netlist_core.specs.Shapes.{shape_of, HasWidths}
-use Rattle.gate_list.specs.declared.literal.GateLit.{GateLit}
-use Rattle.gate_list.specs.declared.literal.GateLit.TheVariants.{Fixed}
-use Rattle.gate_list.specs.Gates.{Gates, count, IsLit, lit_value}
+use Rattle.cell_gates.proofs.Common.{◌≡◌, ℕ, ◌+◌, ◌-◌, ◌*◌, ◌%◌, ◌^◌, ◌≤◌, max, Bool, true, false, not, List, [], ◌∷◌, ◌++◌, length, map, take, drop, replicate, refl, sym, ap, subst, ◌∙◌, arith}
+use Rattle.cell_gates.proofs.Common.{if◌then◌else◌, bit_and, bit_or, bit_xor, All, fold, length-map, length-replicate, length-append, length-take, map-append, take-map, All-nil, All-cons, All-head}
+use Rattle.cell_gates.proofs.Common.{All-tail, All-append, All-take, All-replicate, mul-le-mul_left, Values, CellKind, Shape, Unary, Binary, Relation, Shift, Reduction, Logical, Choice, Selection}
+use Rattle.cell_gates.proofs.Common.{Insertion, digit, number, all_ones, some_one, odd_ones, laid_at, shape_of, HasWidths, GateLit, Fixed, Gates, count, IsLit, lit_value, Up, Down, MadeRow}
+use Rattle.cell_gates.proofs.Common.{IsOperation, made_by, row_of, chain_of, fitted_to, lit_values, operation_value, both_bits, Grows, AddsBits, AddsLit, moved, shift_of, hold-before, grows-none}
+use Rattle.cell_gates.proofs.Common.{grows-then, grows-most, lit-later, lits-later, fold-all, fold-some, fold-odd, lits-negated, values-negated, sum-number, difference-number, less-adds, equal-adds}
+use Rattle.cell_gates.proofs.Common.{map-replicate, both-chosen, reduced, logical, first_lit, top_lit, kept_in, put_in, cell_row, weight, CellIs}
+use Rattle.netlist_core.specs.declared.cell.CellKind.TheVariants.{Not, Neg, And, Or, Xor, Xnor, Add, Sub, Mul, Lt, Le, Gt, Ge, Eq, Ne, Shl, Shr, Sshr, Rand, Ror, Rxor, Rnand, Rnor, Rxnor, Lnot, Land}
+use Rattle.netlist_core.specs.declared.cell.CellKind.TheVariants.{Lor, Mux, Pick, Put}
 use Rattle.gate_list.specs.Folding.{Made, negated, negated_if}
 use Rattle.gate_list.proofs.Adding.{lit-negated, value-negated}
 use Rattle.gate_words.specs.declared.operation.Operation.{Operation}
 use Rattle.gate_words.specs.declared.operation.Operation.TheVariants as op
-use Rattle.gate_words.specs.declared.shifts.Way.TheVariants.{Up, Down}
-use Rattle.gate_words.specs.Rows.{MadeRow, IsOperation, made_by, row_of, chain_of, fitted_to}
-use Rattle.gate_words.specs.Bits.{lit_values, operation_value, both_bits, Grows, AddsBits, AddsLit}
-use Rattle.gate_words.specs.Shifts.{moved, shift_of}
-use Rattle.gate_words.proofs.Growing.{hold-before, grows-none, grows-then, grows-most, lit-later, lits-later}
-use Rattle.gate_words.proofs.Numbers.{fold-all, fold-some, fold-odd}
 use Rattle.gate_words.proofs.RowLemmas.{operation-adds, row-adds, chain-adds}
-use Rattle.gate_words.proofs.Adders.{lits-negated, values-negated, sum-number, difference-number, less-adds, equal-adds}
-use Rattle.gate_words.proofs.Moving.{map-replicate, both-chosen}
 use Rattle.gate_words.proofs.ShiftLemmas.{shifted-adds}
 use Rattle.gate_words.proofs.ProductLemmas.{number-append, number-zeros, number-up, whole-product}
-use Rattle.cell_gates.specs.CellRows.{reduced, logical, first_lit, top_lit, kept_in, put_in, cell_row}
-use Rattle.cell_gates.specs.Weights.{weight}
-use Rattle.cell_gates.specs.Meanings.{CellIs}
 use Rattle.cell_gates.proofs.CellNumbers.{fits-mod, number-and, number-or, number-xor, number-negated, first-value, top-value, top-within, first-within, fitted-number}
 use Rattle.cell_gates.proofs.Laying.{laid-wide}
 

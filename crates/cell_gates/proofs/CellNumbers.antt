@@ -1,21 +1,10 @@
 -- Numbers of what the gates of a cell compute.
-use Rattle.std.proofs.Common.{◌≡◌, ℕ, zero, suc, ◌+◌, ◌-◌, ◌*◌, ◌%◌, ◌^◌, ◌<◌, ◌≤◌, Bool, true, false, not, List, [], ◌∷◌, ◌++◌, length, map, take, replicate, get_or, refl, sym, ap, subst, ◌∙◌, arith, if◌then◌else◌}
-use Rattle.std.specs.Prelude.{bit_and, bit_or, bit_xor}
-use Rattle.std.proofs.lemmas.List.{length-append, length-replicate, length-map, take-replicate}
-use Rattle.std.specs.List.{All}
-use Rattle.std.proofs.lemmas.List.Elements.{All-head, All-tail}
+use Rattle.cell_gates.proofs.Common.{◌≡◌, ℕ, zero, suc, ◌+◌, ◌-◌, ◌*◌, ◌%◌, ◌^◌, ◌<◌, ◌≤◌, Bool, true, false, not, List, [], ◌∷◌, ◌++◌, length, map, take, replicate, get_or, refl, sym, ap, subst, ◌∙◌}
+use Rattle.cell_gates.proofs.Common.{arith, if◌then◌else◌, bit_and, bit_or, bit_xor, length-append, length-replicate, length-map, take-replicate, All, All-head, All-tail, mod-eq_of_lt, Values, digit}
+use Rattle.cell_gates.proofs.Common.{number, top_bit, GateLit, IsLit, lit_value, And, Or, Xor, lit_values, operation_value, both_bits, number-not, first_lit, top_lit}
 use Rattle.std.proofs.lemmas.Nat.{and_block, or_block, xor_block}
-use Rattle.std.proofs.Math.Nat.{mod-eq_of_lt}
-use Rattle.clause_store.specs.Clauses.{Values}
-use Rattle.netlist_core.specs.Numbers.{digit, number}
-use Rattle.netlist_core.specs.Cells.{top_bit}
-use Rattle.gate_list.specs.declared.literal.GateLit.{GateLit}
-use Rattle.gate_list.specs.Gates.{IsLit, lit_value}
-use Rattle.gate_words.specs.declared.operation.Operation.TheVariants.{And, Or, Xor}
-use Rattle.gate_words.specs.Bits.{lit_values, operation_value, both_bits}
-use Rattle.gate_words.proofs.Numbers.{number-fits, number-not}
 use Rattle.gate_words.proofs.ProductLemmas.{number-append, number-zeros, number-take}
-use Rattle.cell_gates.specs.CellRows.{first_lit, top_lit}
+use Rattle.netlist_core.proofs.Settles.{number-fits}
 
 -- the number of a row of w bits is its own remainder
 pub fits-mod : (bits : List Bool) (w : ℕ) → length bits ≡ w → number bits ≡ number bits % 2 ^ w

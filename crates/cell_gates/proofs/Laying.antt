@@ -1,13 +1,6 @@
 -- A row laid into another.
-use Rattle.std.proofs.Common.{◌≡◌, ℕ, zero, suc, ◌+◌, ◌-◌, ◌≤◌, Bool, true, false, not, List, [], ◌∷◌, ◌++◌, length, map, take, drop, replicate, refl, ap, subst, ◌∙◌, arith, if◌then◌else◌}
-use Rattle.std.proofs.lemmas.List.{length-append, length-replicate, length-take-le}
-use Rattle.clause_store.specs.Clauses.{Values}
-use Rattle.netlist_core.specs.Cells.{laid_at}
-use Rattle.gate_words.specs.declared.operation.Operation.TheVariants.{And, Or}
-use Rattle.gate_words.specs.declared.shifts.Way.TheVariants.{Up}
-use Rattle.gate_words.specs.Bits.{operation_value, both_bits}
-use Rattle.gate_words.specs.Shifts.{moved}
-use Rattle.gate_words.proofs.Moving.{take-append-take}
+use Rattle.cell_gates.proofs.Common.{◌≡◌, ℕ, zero, suc, ◌+◌, ◌-◌, ◌≤◌, Bool, true, false, not, List, [], ◌∷◌, ◌++◌, length, map, take, drop, replicate, refl, ap, subst, ◌∙◌, arith, if◌then◌else◌}
+use Rattle.cell_gates.proofs.Common.{length-append, length-replicate, length-take-le, Values, laid_at, And, Or, Up, operation_value, both_bits, moved, take-append-take}
 use Rattle.cell_gates.proofs.CellNumbers.{fitted-take}
 
 -- A without the bits that D is laid over, and D, as a row that is filled with zeros

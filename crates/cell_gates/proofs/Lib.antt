@@ -1,3 +1,4 @@
+mod Common
 pub mod CellLemmas
 pub mod CellNumbers
 pub mod Laying

@@ -1,20 +1,8 @@
 -- The rows at a cell's ports have the widths of the ports.
-use Rattle.std.proofs.Common.{◌≡◌, ℕ, ◌≤◌, Bool, List, [], ◌∷◌, ◌++◌, length, map, refl, sym, ap, subst, ◌∙◌, arith}
-use Rattle.std.specs.List.{All}
-use Rattle.std.proofs.lemmas.List.Elements.{All-nil, All-cons}
-use Rattle.netlist_core.specs.declared.bit.Bit.{Bit}
-use Rattle.netlist_core.specs.declared.cell.CellKind.{CellKind}
-use Rattle.netlist_core.specs.declared.shape.Shape.{Shape}
-use Rattle.netlist_core.specs.declared.shape.Shape.TheVariants.{Unary, Binary, Relation, Shift, Reduction, Logical, Choice, Selection, Insertion}
+use Rattle.cell_gates.proofs.Common.{◌≡◌, ℕ, ◌≤◌, Bool, List, [], ◌∷◌, ◌++◌, length, map, refl, sym, ap, subst, ◌∙◌, arith, All, All-nil, All-cons, Bit, CellKind, Shape, Unary, Binary, Relation}
+use Rattle.cell_gates.proofs.Common.{Shift, Reduction, Logical, Choice, Selection, Insertion, shape_of, widths, HasWidths, GateLit, Gates, count, IsLit, AddsBits, cell_row, weight, CellIs}
 use Rattle.netlist_core.specs.Runs.{input_ports, output_port}
-use Rattle.netlist_core.specs.Shapes.{shape_of, widths, HasWidths}
 use Rattle.netlist_core.specs.Checked.{AllWide}
-use Rattle.gate_list.specs.declared.literal.GateLit.{GateLit}
-use Rattle.gate_list.specs.Gates.{Gates, count, IsLit}
-use Rattle.gate_words.specs.Bits.{AddsBits}
-use Rattle.cell_gates.specs.CellRows.{cell_row}
-use Rattle.cell_gates.specs.Weights.{weight}
-use Rattle.cell_gates.specs.Meanings.{CellIs}
 use Rattle.cell_gates.proofs.CellLemmas.{cell-adds}
 
 no-ports : (shape : Shape) → HasWidths shape [] → ⊥

@@ -1,34 +1,15 @@
 -- What an item leaves in the builder: how many cells it adds, and what stands.
-use Rattle.std.proofs.Common.{◌≡◌, ℕ, zero, suc, ◌+◌, ◌-◌, ◌≤◌, Bool, List, [], ◌∷◌, ◌++◌, take, replicate, length, refl, sym, ap, ◌∙◌, subst, arith}
-use Rattle.std.specs.Prelude.{map}
-use Rattle.std.proofs.lemmas.List.{append_assoc, append-nil, map-append}
-use Rattle.vlog_syntax.specs.declared.module.Module.{Module}
-use Rattle.net_builder.specs.Building.{Building, empty}
-use Rattle.process_cells.specs.Items.{Widths, widths_in}
+use Rattle.cell_scopes.proofs.Common.{◌≡◌, ℕ, zero, suc, ◌+◌, ◌-◌, ◌≤◌, Bool, List, [], ◌∷◌, ◌++◌, take, replicate, length, refl, sym, ap, ◌∙◌, subst, arith, map, append_assoc, append-nil, map-append}
+use Rattle.cell_scopes.proofs.Common.{Module, Building, empty, Widths, widths_in, FlatItem, Flat, widths_of, Builds, Stands, cell_count, declared, no_cells, widths_are, widths_stay, is_within_some}
+use Rattle.cell_scopes.proofs.Common.{cell_scopes, item_scopes, prefix_at, scope_of, scopes_from}
 use Rattle.flat_instances.specs.Places.{Place}
-use Rattle.flat_instances.specs.declared.item.FlatItem.{FlatItem}
-use Rattle.flat_items.specs.Flattened.{Flat}
 use Rattle.flat_items.specs.Replacing.{FlattensTop}
 use Rattle.flat_laws.specs.Sound.{IsSound}
 use Rattle.flat_laws.proofs.Flattened.{flattened_sound}
-use Rattle.elab_items.specs.Designs.{widths_of}
-use Rattle.elab_items.specs.Items.{Builds, Stands, cell_count}
-use Rattle.elab_items.specs.Signals.{declared}
-use Rattle.elab_items.proofs.Counting.{built_count}
-use Rattle.elab_items.proofs.Declaring.{no_cells, widths_are}
 use Rattle.elab_items.proofs.Sounding.{declared_stands}
-use Rattle.elab_items.proofs.Standing.{builds_stand, widths_stay}
-use Rattle.project_options.specs.Instances.{is_within_some}
-use Rattle.cell_scopes.specs.Scopes.{cell_scopes, item_scopes, prefix_at, scope_of, scopes_from}
-
-pub item_stands : (inputs : List Bool) (places : List Place) (item : FlatItem) (old new : Building) → Builds inputs places item old new → Stands places old → Stands places new
-item_stands inputs places item old new h stands = builds_stand inputs places item old new h stands
 
 pub item_widths : (inputs : List Bool) (places : List Place) (item : FlatItem) (old new : Building) → Builds inputs places item old new → widths_in new ≡ widths_in old
 item_widths inputs places item old new h = widths_stay h.meaning old new h.adds
-
-pub item_cells : (inputs : List Bool) (places : List Place) (item : FlatItem) (old new : Building) → Builds inputs places item old new → length new.cells ≡ length old.cells + cell_count (widths_in old) places item
-item_cells inputs places item old new h = built_count inputs places item old new h
 
 -- a list that is filled up to so many elements more
 take_over : {X : Type 0} (xs : List X) (n : ℕ) → length xs ≤ n → take n xs ≡ xs

@@ -1,25 +1,13 @@
 -- A design has one list of the scopes of its cells, with one scope for each cell.
-use Rattle.std.proofs.Common.{◌≡◌, ℕ, ◌+◌, Bool, List, [], ◌∷◌, length, sym, ap, ◌∙◌, arith, length-append}
-use Rattle.std.specs.Prelude.{map}
-use Rattle.std.proofs.lemmas.List.{length-map, length-replicate}
-use Rattle.vlog_syntax.specs.declared.module.Module.{Module}
-use Rattle.net_builder.specs.Building.{Building, empty}
-use Rattle.process_cells.specs.Items.{widths_in}
+use Rattle.cell_scopes.proofs.Common.{◌≡◌, ℕ, ◌+◌, Bool, List, [], ◌∷◌, length, sym, ap, ◌∙◌, arith, length-append, map, length-map, length-replicate, Module, Building, empty, widths_in, FlatItem}
+use Rattle.cell_scopes.proofs.Common.{Flat, widths_of, cell_count, declared, no_cells, widths_are, is_within_some, AreSkipped, cell_scopes, item_scopes, prefix_at, scope_of, scopes_from, built_count}
 use Rattle.process_cells.specs.Starts.{SameButStarts}
-use Rattle.flat_instances.specs.declared.item.FlatItem.{FlatItem}
-use Rattle.flat_items.specs.Flattened.{Flat}
 use Rattle.flat_clocks.specs.Clocks.{Clocks, clocks_of}
 use Rattle.flat_once.proofs.Flattened.{flattens_once}
-use Rattle.elab_items.specs.Designs.{widths_of}
-use Rattle.elab_items.specs.Items.{cell_count}
-use Rattle.elab_items.specs.Signals.{declared}
 use Rattle.elab_items.specs.Timed.{BuildsAll}
-use Rattle.elab_items.proofs.Declaring.{no_cells, widths_are}
 use Rattle.elab_items.proofs.Starting.{same_widths}
 use Rattle.cell_scopes.specs.Laws.{CellsHaveScopes, ScopesAreOne}
-use Rattle.project_options.specs.Instances.{is_within_some}
-use Rattle.cell_scopes.specs.Scopes.{AreSkipped, cell_scopes, item_scopes, prefix_at, scope_of, scopes_from}
-use Rattle.cell_scopes.proofs.Counted.{item_cells, item_widths}
+use Rattle.cell_scopes.proofs.Counted.{item_widths}
 
 pub scopes_are_one : ScopesAreOne
 scopes_are_one modules top scopes other h k = h.are ∙ ap cell_scopes (flattens_once modules top h.flat k.flat h.flattens k.flattens) ∙ sym k.are
@@ -33,7 +21,7 @@ all_count inputs flat clocks [] b last widths d =
     let same : length last.cells ≡ length b.cells = ap (λ (x : Building). length x.cells) d in
     omega (arith, same)
 all_count inputs flat clocks (item ∷ more) b last widths (mid, d, rest) =
-    let added = item_cells inputs flat.places item b mid d.builds in
+    let added = built_count inputs flat.places item b mid d.builds in
     let count : cell_count (widths_in b) flat.places item ≡ length (item_scopes flat item) = ap (λ (w : ℕ → ℕ). cell_count w flat.places item) widths ∙ sym (item_count flat item) in
     let later = all_count inputs flat clocks more mid last (item_widths inputs flat.places item b mid d.builds ∙ widths) rest in
     let both = length-append (item_scopes flat item) (scopes_from flat more) in

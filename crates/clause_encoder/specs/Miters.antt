@@ -3,6 +3,8 @@ use Rattle.std.specs.Prelude.{◌≡◌, ◌≢◌, ℕ, ◌<◌, ◌≤◌, ◌
 use Rattle.clause_store.specs.Clauses.{AreOver}
 use Rattle.clause_store.specs.Propagation.{Known, IsQuiet}
 
+-- For proofs alone.
+
 -- Where all lesser variables have values, a variable that is no free bit has one too, or some clause is unit or false.
 abbrev pub Settles : List (List ℤ) → ℕ → ℕ → Type 0
 Settles clauses variables free = (known : Known) (v : ℕ) → free < v → v ≤ variables → ((w : ℕ) → 0 < w → w < v → known w ≢ None) → known v ≡ None → All (IsQuiet known) clauses → ⊥

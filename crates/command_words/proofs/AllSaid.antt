@@ -1,5 +1,5 @@
 -- Words that each say something, one after the other.
-use Rattle.std.proofs.Common.{◌++◌, List, Option, option_map}
+use Rattle.command_words.proofs.Common.{◌++◌, List, Option, option_map}
 
 -- what is said so far, and what the words behind it say
 abbrev pub behind : {X : Type 0} → List X → Option (List X) → Option (List X)

@@ -1,17 +1,7 @@
 -- The words behind `demo`: two, which are its numbers.
-use Rattle.std.proofs.Common.{◌≡◌, ◌∙◌, ◌||◌, ℕ, Bool, true, false, true≢false, ap, sym, refl, List, [], ◌∷◌, Option, Some, None, inl, inr, codes}
-use Rattle.std.specs.Prelude.{◌⊎◌, bytes_eq}
-use Rattle.std.specs.List.{list_any}
-use Rattle.std.proofs.lemmas.Slice.Eq.{bytes_eq-Decides}
-use Rattle.clap.specs.Walk.{Row, Text, Walk, arg_by_index, first_of, idle, to_positional, value}
-use Rattle.clap.specs.Simple.{Shape}
-use Rattle.clap.specs.Faults.{step_fault}
-use Rattle.clap.specs.declared.builder.value_parser.Reading.TheVariants.{AsWritten}
-use Rattle.clap.specs.declared.parser.matches.ValueSource.TheVariants.{CommandLine}
-use Rattle.clap.proofs.OnLiterals.{clap_on_literals}
-use Rattle.command_words.specs.declared.asked.Asked.{Asked}
-use Rattle.command_words.specs.Commands.{cells_number, demo_of, demo_with, seed_number}
-use Rattle.command_words.specs.Program.{demo_by, demo_shape}
+use Rattle.command_words.proofs.Common.{◌≡◌, ◌∙◌, ◌||◌, ℕ, Bool, true, false, true≢false, ap, sym, refl, List, [], ◌∷◌, Option, Some, None, inl, inr, codes, ◌⊎◌, bytes_eq, list_any, bytes_eq-Decides}
+use Rattle.command_words.proofs.Common.{Row, Text, Walk, arg_by_index, first_of, idle, to_positional, value, Shape, step_fault, AsWritten, CommandLine, clap_on_literals, Asked, cells_number, demo_of}
+use Rattle.command_words.proofs.Common.{demo_with, seed_number, demo_by, demo_shape}
 use Rattle.command_words.proofs.RunTurns.{IsClean, IsWord, below}
 use Rattle.command_words.proofs.Turns.{Begins, IsPlaced, KnowsNot, at, dashes, holding, moves_to, placed, refused_at, stray, verdict}
 

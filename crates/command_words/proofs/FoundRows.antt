@@ -1,26 +1,18 @@
 -- What was found of the options of `run`: a row for each that was given, in the order given.
-use Rattle.std.proofs.Common.{◌≡◌, ◌∙◌, ◌||◌, Bool, cond, true, false, refl, ap, List, [], ◌∷◌, ◌++◌, Option, Some, None}
-use Rattle.std.specs.Prelude.{bytes_eq, find, option_and_then, slice_get}
-use Rattle.std.specs.Option.{is_some}
+use Rattle.command_words.proofs.Common.{◌≡◌, ◌∙◌, ◌||◌, Bool, cond, true, false, refl, ap, List, [], ◌∷◌, ◌++◌, Option, Some, None, bytes_eq, find, option_and_then, slice_get, is_some, Row, Text}
+use Rattle.command_words.proofs.Common.{at_row, first_of, has_row, more_values, with_values, without, CommandLine, AsWritten, or_parts}
 use Rattle.std.proofs.lemmas.List.{append-nil}
-use Rattle.clap.specs.Walk.{Row, Text, at_row, first_of, has_row, more_values, with_values, without}
-use Rattle.clap.specs.declared.parser.matches.ValueSource.TheVariants.{CommandLine}
-use Rattle.clap.specs.declared.builder.value_parser.Reading.TheVariants.{AsWritten}
 use Rattle.command_words.proofs.OptionWords.{Flag, Jobs, Mutations, Retry, Stop, name_of}
 
 -- the row of an option with this value
 abbrev pub row : Flag → Text → Row
 row f value = record { id = name_of f; values = value ∷ []; count = None; source = Some CommandLine; reading = AsWritten }
 
-either_false : (a b : Bool) → (a || b) ≡ false → (a ≡ false) × (b ≡ false)
-either_false true b e = (e, absurd (let never : true ≡ false = e in cc))
-either_false false b e = (refl, e)
-
 -- a change of a row that is not there adds what stands in its place
 absent : (id : Text) (change : Row → List Row) (missing rows : List Row) → has_row id rows ≡ false → at_row id change missing rows ≡ rows ++ missing
 absent id change missing [] none = refl
 absent id change missing (r ∷ rows) none =
-    let parts = either_false (bytes_eq r.id id) (has_row id rows) none in
+    let parts = or_parts (bytes_eq r.id id) (has_row id rows) none in
     ap (λ (b : Bool). cond b (change r ++ rows) (r ∷ at_row id change missing rows)) parts.0 ∙ ap (λ (rs : List Row). r ∷ rs) (absent id change missing rows parts.1)
 
 -- a first value adds a row
@@ -89,7 +81,7 @@ has_more id (x ∷ rows) r = ap (λ (b : Bool). bytes_eq x.id id || b) (has_more
 found_last : (id : Text) (rows : List Row) (r : Row) → has_row id rows ≡ false → bytes_eq r.id id ≡ true → first_of id (rows ++ r ∷ []) ≡ slice_get r.values 0
 found_last id [] r none same = ap (λ (b : Bool). option_and_then (λ (x : Row). slice_get x.values 0) (cond b (Some r) None)) same
 found_last id (x ∷ rows) r none same =
-    let parts = either_false (bytes_eq x.id id) (has_row id rows) none in
+    let parts = or_parts (bytes_eq x.id id) (has_row id rows) none in
     ap (λ (b : Bool). option_and_then (λ (y : Row). slice_get y.values 0) (cond b (Some x) (find (λ y. bytes_eq y.id id) (rows ++ r ∷ [])))) parts.0 ∙ found_last id rows r parts.1 same
 
 found_before : (id : Text) (rows : List Row) (r : Row) → bytes_eq r.id id ≡ false → first_of id (rows ++ r ∷ []) ≡ first_of id rows

@@ -1,3 +1,4 @@
+mod Common
 mod WordParts
 mod OptionWords
 mod FoundRows

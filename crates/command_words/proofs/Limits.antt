@@ -1,14 +1,11 @@
 -- The numbers that the words give: the limit of a retry is one, there are 1 to 64 slots, and a made project has 1 to 400 cells.
-use Rattle.std.proofs.Common.{◌≡◌, ◌≤◌, ◌<◌, ◌^◌, ◌&&◌, ℕ, Bool, cond, true, false, refl, subst, List, [], ◌∷◌, Option, Some, None, arith, codes, drop, length, nat_eq, option_map}
-use Rattle.std.specs.Prelude.{IsTrue, bytes_eq, nat_le, option_and_then, unwrap_or}
-use Rattle.std.specs.List.{starts_with}
-use Rattle.std.specs.Str.Parse.{digits_value}
-use Rattle.std.proofs.lemmas.Bool.{and_parts, leb-true}
+use Rattle.command_words.proofs.Common.{◌≡◌, ◌≤◌, ◌<◌, ◌^◌, ◌&&◌, ℕ, Bool, cond, true, false, refl, subst, List, [], ◌∷◌, Option, Some, None, arith, codes, drop, length, nat_eq, option_map, IsTrue}
+use Rattle.command_words.proofs.Common.{bytes_eq, nat_le, option_and_then, unwrap_or, starts_with, digits_value, and_parts, leb-true, Asked, Init, Run, Listing, Status, Source, Baseline, Demo}
+use Rattle.command_words.proofs.Common.{Options, alone, cells_number, command_of, demo_of, demo_with, is_cells, is_jobs, is_jobs_name, is_numeral, is_parted, is_retry_name, is_stop_name, jobs_number}
+use Rattle.command_words.proofs.Common.{jobs_with, joined, mutation_numbers, mutations_with, no_options, once, options_of, parted, plainly, retry_limit, retry_with, run_with, seed_number, short_value}
+use Rattle.command_words.proofs.Common.{status_of, stop_number, stop_with, same_Some}
 use Rattle.result_book.specs.Rounds.{is_limit}
-use Rattle.command_words.specs.declared.asked.Asked.{Asked}
 use Rattle.command_words.specs.declared.command.Command.{Command}
-use Rattle.command_words.specs.declared.command.Command.TheVariants.{Init, Run, List as Listing, Status, Source, Baseline, Demo}
-use Rattle.command_words.specs.Commands.{Options, alone, cells_number, command_of, demo_of, demo_with, is_cells, is_jobs, is_jobs_name, is_numeral, is_parted, is_retry_name, is_stop_name, jobs_number, jobs_with, joined, mutation_numbers, mutations_with, no_options, once, options_of, parted, plainly, retry_limit, retry_with, run_with, seed_number, short_value, status_of, stop_number, stop_with}
 use Rattle.command_words.proofs.Numerals.{numeral_small}
 
 -- the limit of a retry, where there is one, is one
@@ -27,9 +24,6 @@ HasJobs (Some jobs) = AreJobs jobs
 pub record IsFine (options : Options) : Type 0 where
   pub jobs : HasJobs options.jobs
   pub retry : IsLimit options.retry
-
-same : {X : Type 0} (a b : X) → Some a ≡ Some b → a ≡ b
-same a b e = cc
 
 limit_fine : (word : List ℕ) → IsLimit (retry_limit word)
 limit_fine word = go (is_numeral word && is_limit (digits_value 10 word)) refl
@@ -54,7 +48,7 @@ number_fine word = go (is_numeral word && is_jobs (digits_value 10 word)) refl
 once_fine : {N : Type 0} (before said : Option N) (next : Options) (make : N → Options) → ((n : N) → said ≡ Some n → IsFine (make n)) → once before said make ≡ Some next → IsFine next
 once_fine (Some n) said next make each e = absurd (let never : None ≡ Some next = e in cc)
 once_fine None None next make each e = absurd (let never : None ≡ Some next = e in cc)
-once_fine None (Some n) next make each e = subst IsFine (same (make n) next e) (each n refl)
+once_fine None (Some n) next make each e = subst IsFine (same_Some (make n) next e) (each n refl)
 
 jobs_fine : (options next : Options) (word : List ℕ) → IsFine options → jobs_with options word ≡ Some next → IsFine next
 jobs_fine options next word fine is = once_fine options.jobs (jobs_number word) next (λ n. record options { jobs = Some n }) (λ n e. record { jobs = subst HasJobs e (number_fine word); retry = fine.retry }) is
@@ -93,7 +87,7 @@ abbrev IsKept : Options → List (List ℕ) → Type 0
 IsKept last words = (next : Options) → IsFine next → options_of next words ≡ Some last → IsFine last
 
 options_fine : (options last : Options) (words : List (List ℕ)) → IsFine options → options_of options words ≡ Some last → IsFine last
-options_fine options last [] fine is = subst IsFine (same options last is) fine
+options_fine options last [] fine is = subst IsFine (same_Some options last is) fine
 options_fine options last (word ∷ []) fine is = joined_fine options last word fine is
 options_fine options last (word ∷ value ∷ more) fine is =
     go (λ next h. options_fine next last more h) (λ next h. options_fine next last (value ∷ more) h) (is_parted word) is
@@ -212,10 +206,6 @@ retry_is_limit words jobs stop limit is = (subst IsFineCommand is (command_fine 
 -- and the slots
 pub jobs_are_few : (words : List (List ℕ)) (jobs : ℕ) (stop retry : Option ℕ) → command_of words ≡ Some (Run jobs stop retry) → (1 ≤ jobs) × (jobs ≤ 64)
 jobs_are_few words jobs stop retry is = (subst IsFineCommand is (command_fine words)).0
-
--- the numbers of a demo
-pub seed_is_small : (words : List (List ℕ)) (seed cells : ℕ) → command_of words ≡ Some (Demo seed cells) → seed < 2 ^ 64
-seed_is_small words seed cells is = (subst IsFineCommand is (command_fine words)).0
 
 pub cells_are_few : (words : List (List ℕ)) (seed cells : ℕ) → command_of words ≡ Some (Demo seed cells) → (1 ≤ cells) × (cells ≤ 400)
 cells_are_few words seed cells is = (subst IsFineCommand is (command_fine words)).1

@@ -1,12 +1,8 @@
 -- A word of digits alone is a numeral, and ten digits say a number below 2 ^ 64.
-use Rattle.std.proofs.Common.{◌≡◌, ◌≤◌, ◌<◌, ◌^◌, true, List, ℕ, length, arith, rules}
-use Rattle.std.proofs.lemmas.Bool.{and_parts, leb-true}
+use Rattle.command_words.proofs.Common.{◌≡◌, ◌≤◌, ◌<◌, ◌^◌, true, List, ℕ, length, arith, rules, and_parts, leb-true, list_all, nat_le, digits_value, is_numeral}
 use Rattle.std.proofs.lemmas.Str.Parse.{IsNumeralModel, digits_value_short, numerals_by_value}
 use Rattle.std.specs.Char.{is_ascii_digit}
-use Rattle.std.specs.List.{list_all}
-use Rattle.std.specs.Prelude.{◌&&◌, nat_le}
-use Rattle.std.specs.Str.Parse.{digits_value}
-use Rattle.command_words.specs.Commands.{is_numeral}
+use Rattle.std.specs.Prelude.{◌&&◌}
 
 pub numerals : IsNumeralModel (λ word. list_all is_ascii_digit word ≡ true) (digits_value 10)
 numerals = numerals_by_value _ (search rules)

@@ -1,13 +1,7 @@
 -- What the words behind `run` ask for.
-use Rattle.std.proofs.Common.{◌≡◌, ◌∙◌, ◌||◌, Bool, cond, true, false, true≢false, refl, sym, ap, subst, List, [], ◌∷◌, ◌++◌, Option, Some, None, inl, inr}
-use Rattle.std.specs.Prelude.{◌⊎◌, bytes_eq}
-use Rattle.std.specs.Option.{is_some}
-use Rattle.std.specs.List.{list_any}
-use Rattle.std.proofs.lemmas.Slice.Eq.{bytes_eq-Decides}
-use Rattle.clap.specs.Walk.{Row, Text, has_row}
-use Rattle.command_words.specs.declared.asked.Asked.{Asked}
-use Rattle.command_words.specs.Commands.{Options, is_jobs_name, is_parted, is_retry_name, is_stop_name, jobs_with, joined as option_joined, mutations_with, no_options, options_of, parted, retry_with, run_with, stop_with}
-use Rattle.command_words.specs.Program.{run_by}
+use Rattle.command_words.proofs.Common.{◌≡◌, ◌∙◌, ◌||◌, Bool, cond, true, false, true≢false, refl, sym, ap, subst, List, [], ◌∷◌, ◌++◌, Option, Some, None, inl, inr, ◌⊎◌, bytes_eq, is_some, list_any}
+use Rattle.command_words.proofs.Common.{bytes_eq-Decides, Row, Text, has_row, Asked, Options, is_jobs_name, is_parted, is_retry_name, is_stop_name, jobs_with, option_joined, mutations_with}
+use Rattle.command_words.proofs.Common.{no_options, options_of, parted, retry_with, run_with, stop_with, run_by}
 use Rattle.command_words.proofs.FoundRows.{AreRows, Values, no_rows, no_values, row, rows_more, value_at, with_value}
 use Rattle.command_words.proofs.OptionWords.{Flag, IsAlone, IsJoined, IsOther, Jobs, Joined, Mutations, Retry, Stop, alone, flag_in, joined, name_of, option_or_other, value_in}
 use Rattle.command_words.proofs.RunEnds.{all_read, waits_ended}

@@ -1,14 +1,8 @@
 -- The options of `run` by their values.
-use Rattle.std.proofs.Common.{◌≡◌, ◌∙◌, ◌==◌, ℕ, Bool, cond, true, false, true≢false, refl, sym, ap, List, [], ◌∷◌, get_or, Option, Some, None, codes, map, nat_eq}
-use Rattle.std.specs.Prelude.{option_and_then}
-use Rattle.std.specs.Option.{is_some}
-use Rattle.std.specs.List.{onto_first, slice_split, starts_with}
-use Rattle.std.proofs.lemmas.Bool.{false_from_ne_true}
-use Rattle.std.proofs.lemmas.Bool.Decides.{Decides-eqb}
-use Rattle.std.proofs.lemmas.Slice.Eq.{starts_is}
-use Rattle.clap.specs.Walk.{Text}
+use Rattle.command_words.proofs.Common.{◌≡◌, ◌∙◌, ◌==◌, ℕ, Bool, cond, true, false, true≢false, refl, sym, ap, List, [], ◌∷◌, get_or, Option, Some, None, codes, map, nat_eq, option_and_then, is_some}
+use Rattle.command_words.proofs.Common.{onto_first, slice_split, starts_with, false_from_ne_true, Decides-eqb, starts_is, Text, Options, all_said, is_jobs, is_parted, is_stop, jobs_number, jobs_with}
+use Rattle.command_words.proofs.Common.{option_joined, mutation_number, mutation_numbers, mutations_with, number_in, once, options_of, parted, retry_limit, retry_with, stop_number, stop_with}
 use Rattle.result_book.specs.Rounds.{is_limit}
-use Rattle.command_words.specs.Commands.{Options, all_said, is_jobs, is_parted, is_stop, jobs_number, jobs_with, joined as option_joined, mutation_number, mutation_numbers, mutations_with, number_in, once, options_of, parted, retry_limit, retry_with, stop_number, stop_with}
 use Rattle.command_words.proofs.OptionWords.{Flag, IsOther, Jobs, Joined, JobsBy, JobsIn, Mutations, MutationsBy, Retry, RetryBy, Stop, StopBy, alone, flag_in, joined, value_in}
 use Rattle.command_words.proofs.Turns.{Begins}
 

@@ -1,12 +1,6 @@
 -- How a word that is an option of `run` looks to the lexer, and how no other word does.
-use Rattle.std.proofs.Common.{◌≡◌, ◌∙◌, ◌==◌, ℕ, Bool, true, false, true≢false, refl, sym, ap, subst, [], ◌∷◌, ◌++◌, drop, length, arith, Option, Some, inl, inr, codes, nat_eq, append_assoc, IsUtf8, chars}
-use Rattle.std.specs.Prelude.{◌⊎◌, bytes_eq, slice_get}
-use Rattle.std.specs.List.{before_first, starts_with}
-use Rattle.std.proofs.lemmas.Bool.{false_from_ne_true}
-use Rattle.std.proofs.lemmas.Bool.Decides.{Decides-eqb}
-use Rattle.std.proofs.lemmas.Slice.Eq.{bytes_eq-Decides, starts_is}
-use Rattle.clap.specs.Lexer.{long_of, short_of}
-use Rattle.clap.specs.Walk.{Text}
+use Rattle.command_words.proofs.Common.{◌≡◌, ◌∙◌, ◌==◌, ℕ, Bool, true, false, true≢false, refl, sym, ap, subst, [], ◌∷◌, ◌++◌, drop, length, arith, Option, Some, inl, inr, codes, nat_eq, append_assoc}
+use Rattle.command_words.proofs.Common.{IsUtf8, chars, ◌⊎◌, bytes_eq, slice_get, before_first, starts_with, false_from_ne_true, Decides-eqb, bytes_eq-Decides, starts_is, long_of, short_of, Text}
 use Rattle.command_words.proofs.WordParts.{cut_as, first_byte, long_parts, past_hyphen, short_parts}
 
 -- the options of `run`

@@ -1,11 +1,7 @@
 -- The end of the words behind `run`: what was found gives the command, unless an option still waits for its value.
-use Rattle.std.proofs.Common.{◌≡◌, ◌∙◌, ◌||◌, Bool, cond, true, false, refl, ap, ap₂, List, [], ◌∷◌, Option, None}
+use Rattle.command_words.proofs.Common.{◌≡◌, ◌∙◌, ◌||◌, Bool, cond, true, false, refl, ap, ap₂, List, [], ◌∷◌, Option, None, Row, Text, has_row, used, with_default, Kinds, or_else, check_fault}
+use Rattle.command_words.proofs.Common.{default_fault, defaults_fault, given_default_fault, use_fault, clap_on_literals, Asked}
 use Rattle.std.specs.Prelude.{fold}
-use Rattle.clap.specs.Walk.{Row, Text, has_row, used, with_default}
-use Rattle.clap.specs.Kinds.{Kinds, or_else}
-use Rattle.clap.specs.Faults.{check_fault, default_fault, defaults_fault, given_default_fault, use_fault}
-use Rattle.clap.proofs.OnLiterals.{clap_on_literals}
-use Rattle.command_words.specs.declared.asked.Asked.{Asked}
 use Rattle.command_words.proofs.OptionWords.{Flag, Jobs, Mutations, Retry, Stop, name_of}
 use Rattle.command_words.proofs.RunTurns.{answer, begun, by_rows, given, rule_of, run, waits}
 use Rattle.command_words.proofs.Turns.{taken}

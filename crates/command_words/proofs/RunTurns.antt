@@ -1,16 +1,10 @@
 -- The words behind `run`: what the parse holds after each. There are few places in which it can be: between two options, behind an
 -- option that waits for its value, and behind a value that is not taken over yet.
-use Rattle.std.proofs.Common.{◌≡◌, ◌∙◌, ◌&&◌, ◌||◌, ◌==◌, ℕ, Bool, cond, true, false, refl, sym, ap, subst, List, [], ◌∷◌, ◌++◌, Option, Some, None, IsUtf8}
-use Rattle.std.specs.Prelude.{⊤, bytes_eq}
-use Rattle.std.specs.Option.{option_map_or}
-use Rattle.clap.specs.Walk.{Held, Row, Rule, Step, Text, Waiting, Walk, after_flag, after_step, attached_value, has_row, idle, next, option, option_met, plain_word, positional, settled, used, walked}
-use Rattle.clap.specs.Simple.{Shape, built_leaf, filled, inherited, marked_built, with_index, with_leaf_noted}
-use Rattle.clap.specs.Kinds.{Kinds, or_else}
-use Rattle.clap.specs.Faults.{option_fault, settle_fault, step_fault, turn_fault, use_fault}
+use Rattle.command_words.proofs.Common.{◌≡◌, ◌∙◌, ◌&&◌, ◌||◌, ◌==◌, ℕ, Bool, cond, true, false, refl, sym, ap, subst, List, [], ◌∷◌, ◌++◌, Option, Some, None, IsUtf8, ⊤, bytes_eq, option_map_or, Held}
+use Rattle.command_words.proofs.Common.{Row, Rule, Step, Text, Waiting, Walk, after_flag, after_step, attached_value, has_row, idle, next, option, option_met, plain_word, positional, settled, used}
+use Rattle.command_words.proofs.Common.{walked, Shape, built_leaf, filled, inherited, marked_built, with_index, with_leaf_noted, Kinds, or_else, option_fault, settle_fault, step_fault, turn_fault}
+use Rattle.command_words.proofs.Common.{use_fault, clap_on_literals, Asked, command_line, jobs_rule, mutations_rule, retry_rule, run_found, run_shape, stop_rule}
 use Rattle.clap.specs.declared.error.kind.ErrorKind.TheVariants.{ArgumentConflict}
-use Rattle.clap.proofs.OnLiterals.{clap_on_literals}
-use Rattle.command_words.specs.declared.asked.Asked.{Asked}
-use Rattle.command_words.specs.Program.{command_line, jobs_rule, mutations_rule, retry_rule, run_found, run_shape, stop_rule}
 use Rattle.command_words.proofs.FoundRows.{first_value, row}
 use Rattle.command_words.proofs.OptionWords.{Flag, IsOther, Jobs, Joined, JobsBy, JobsIn, Mutations, MutationsBy, Retry, RetryBy, Stop, StopBy, alone, flag_in, joined, name_of, value_in}
 use Rattle.command_words.proofs.Turns.{IsRefused, KnowsNot, at, dashes, holding, or_refused, refused_at, stray, verdict}

@@ -1,14 +1,11 @@
 -- The options behind `run`, one after the other: a value behind its option, and an option with its value.
-use Rattle.std.proofs.Common.{◌≡◌, ◌∙◌, Bool, true, false, sym, ap, ap₂, subst, List, [], ◌∷◌, ◌++◌, Option, Some, None, inl, inr, refl}
-use Rattle.std.specs.Prelude.{◌⊎◌}
-use Rattle.clap.specs.Walk.{Held, Row, Step, Text, after_step, has_row, idle, next, option, plain_word, settled, used, walked, word_met}
-use Rattle.clap.specs.Kinds.{Kinds, or_else}
-use Rattle.clap.specs.Faults.{settle_fault, step_fault, turn_fault, use_fault, word_fault}
-use Rattle.clap.proofs.OnLiterals.{clap_on_literals}
+use Rattle.command_words.proofs.Common.{◌≡◌, ◌∙◌, Bool, true, false, sym, ap, ap₂, subst, List, [], ◌∷◌, ◌++◌, Option, Some, None, inl, inr, refl, ◌⊎◌, Held, Row, Step, Text, after_step, has_row}
+use Rattle.command_words.proofs.Common.{idle, next, option, plain_word, settled, used, walked, word_met, Kinds, or_else, settle_fault, step_fault, turn_fault, use_fault, word_fault, clap_on_literals}
 use Rattle.command_words.proofs.FoundRows.{row}
 use Rattle.command_words.proofs.OptionWords.{Flag, IsAlone, IsJoined, IsOther, Joined, alone, alone_begins, flag_in, joined, joined_begins, name_of, option_or_other, value_in}
 use Rattle.command_words.proofs.RunEnds.{begun_ended, ended, given_ended}
-use Rattle.command_words.proofs.RunTurns.{IsClean, alone_turn, alone_walk, answer, begun, by_rows, further, given, joined_fault, joined_refused, joined_turn, joined_walk, knows_not, other_refused, rule_of, run, settle_given, settled_given, use_refused, use_taken, used_first, waits, waits_alone_refused, waits_joined_refused, waits_plain}
+use Rattle.command_words.proofs.RunTurns.{IsClean, alone_turn, alone_walk, answer, begun, by_rows, further, given, joined_fault, joined_refused, joined_turn, joined_walk, knows_not, other_refused}
+use Rattle.command_words.proofs.RunTurns.{rule_of, run, settle_given, settled_given, use_refused, use_taken, used_first, waits, waits_alone_refused, waits_joined_refused, waits_plain}
 use Rattle.command_words.proofs.Turns.{Begins, IsRefused, holding, moves_to, or_refused, refused_at, same_turn, taken_refused, word_is_met}
 
 -- ---- a value behind its option

@@ -1,15 +1,10 @@
 -- The options of `run` that values say, each on its own.
-use Rattle.std.proofs.Common.{◌≡◌, ◌∙◌, ℕ, true, true≢false, refl, sym, ap, List, [], Option, Some, None, option_map}
-use Rattle.std.specs.Prelude.{option_and_then, unwrap_or}
-use Rattle.std.specs.Option.{is_some}
-use Rattle.clap.specs.Walk.{Text}
-use Rattle.command_words.specs.declared.asked.Asked.{Asked}
-use Rattle.command_words.specs.Commands.{Options, jobs_number, jobs_with, mutation_numbers, mutations_with, once, retry_limit, retry_with, run_with, stop_number, stop_with}
-use Rattle.command_words.specs.Program.{choosing_by, retrying_by, run_at, run_by, said_by, stopping_by}
+use Rattle.command_words.proofs.Common.{◌≡◌, ◌∙◌, ℕ, true, true≢false, refl, sym, ap, List, [], Option, Some, None, option_map, option_and_then, unwrap_or, is_some, Text, Asked, Options, jobs_number}
+use Rattle.command_words.proofs.Common.{jobs_with, mutation_numbers, mutations_with, once, retry_limit, retry_with, run_with, stop_number, stop_with, choosing_by, retrying_by, run_at, run_by, said_by}
+use Rattle.command_words.proofs.Common.{stopping_by, none-some, same_Some}
 use Rattle.command_words.proofs.FoundRows.{Values, value_at, with_value}
 use Rattle.command_words.proofs.OptionValues.{and_then, is_given, with_option}
 use Rattle.command_words.proofs.OptionWords.{Flag, Jobs, Mutations, Retry, Stop}
-use Rattle.command_words.proofs.WordParts.{none_is_no_some, some_is}
 
 -- options with these values
 abbrev saying : Option ℕ → Option ℕ → Option ℕ → Option (List ℕ) → Options
@@ -98,8 +93,8 @@ read_some read None n e some = absurd (true≢false (sym some))
 read_some {N = N} read (Some word) n e some = go (read word) e
   where
     go : (said : Option N) → option_map (λ k. Some k) said ≡ Some n → is_some n ≡ true
-    go None never = absurd (none_is_no_some n never)
-    go (Some k) is = ap is_some (sym (some_is (Some k) n is))
+    go None never = absurd (none-some n never)
+    go (Some k) is = ap is_some (sym (same_Some (Some k) n is))
 
 -- what the values of such options say
 record AreRead (jobs stop limit : Option (Option ℕ)) (mutations : Option (Option (List ℕ))) (options : Options) : Type 0 where
@@ -109,12 +104,12 @@ record AreRead (jobs stop limit : Option (Option ℕ)) (mutations : Option (Opti
   mutations_are : mutations ≡ Some options.mutations
 
 four_are : (jobs stop limit : Option (Option ℕ)) (mutations : Option (Option (List ℕ))) (options : Options) → of_four jobs stop limit mutations ≡ Some options → AreRead jobs stop limit mutations options
-four_are None stop limit mutations options e = absurd (none_is_no_some options e)
-four_are (Some jobs) None limit mutations options e = absurd (none_is_no_some options e)
-four_are (Some jobs) (Some stop) None mutations options e = absurd (none_is_no_some options e)
-four_are (Some jobs) (Some stop) (Some limit) None options e = absurd (none_is_no_some options e)
+four_are None stop limit mutations options e = absurd (none-some options e)
+four_are (Some jobs) None limit mutations options e = absurd (none-some options e)
+four_are (Some jobs) (Some stop) None mutations options e = absurd (none-some options e)
+four_are (Some jobs) (Some stop) (Some limit) None options e = absurd (none-some options e)
 four_are (Some jobs) (Some stop) (Some limit) (Some mutations) options e =
-    let same : saying jobs stop limit mutations ≡ options = some_is (saying jobs stop limit mutations) options e in
+    let same : saying jobs stop limit mutations ≡ options = same_Some (saying jobs stop limit mutations) options e in
     record {
       jobs_are = ap (λ (o : Options). Some o.jobs) same;
       stop_is = ap (λ (o : Options). Some o.stop_after) same;

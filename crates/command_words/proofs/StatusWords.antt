@@ -1,18 +1,7 @@
 -- The words behind `status`: none, or its flag once.
-use Rattle.std.proofs.Common.{◌≡◌, ◌∙◌, ◌||◌, Bool, cond, true, false, true≢false, ap, subst, sym, refl, List, [], ◌∷◌, ◌++◌, Option, Some, None, inl, inr, codes}
-use Rattle.std.specs.Prelude.{bytes_eq}
-use Rattle.std.specs.List.{list_any}
-use Rattle.std.proofs.lemmas.Slice.Eq.{bytes_eq-Decides}
-use Rattle.clap.specs.Walk.{Row, Text, Walk, first_of, idle, walked}
-use Rattle.clap.specs.Simple.{Shape, filled, with_index}
-use Rattle.clap.specs.Faults.{turn_fault}
-use Rattle.clap.specs.declared.builder.value_parser.Reading.TheVariants.{AsWritten}
-use Rattle.clap.specs.declared.parser.matches.ValueSource.TheVariants.{CommandLine}
-use Rattle.clap.proofs.OnLiterals.{clap_on_literals}
-use Rattle.command_words.specs.declared.asked.Asked.{Asked}
-use Rattle.command_words.specs.declared.command.Command.TheVariants.{Status}
-use Rattle.command_words.specs.Commands.{plainly, status_of}
-use Rattle.command_words.specs.Program.{status_by, status_shape, strict_rule}
+use Rattle.command_words.proofs.Common.{◌≡◌, ◌∙◌, ◌||◌, Bool, cond, true, false, true≢false, ap, subst, sym, refl, List, [], ◌∷◌, ◌++◌, Option, Some, None, inl, inr, codes, bytes_eq, list_any}
+use Rattle.command_words.proofs.Common.{bytes_eq-Decides, Row, Text, Walk, first_of, idle, walked, Shape, filled, with_index, turn_fault, AsWritten, CommandLine, clap_on_literals, Asked, Status}
+use Rattle.command_words.proofs.Common.{plainly, status_of, status_by, status_shape, strict_rule}
 use Rattle.command_words.proofs.OptionWords.{IsNotLong, LongOrNot, long_alone, long_or_not, long_prefix}
 use Rattle.command_words.proofs.RunTurns.{IsClean, IsWord, below}
 use Rattle.command_words.proofs.Turns.{KnowsNot, at, dashes, holding, moves_to, refused_at, stray, verdict}

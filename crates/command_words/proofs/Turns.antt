@@ -1,14 +1,10 @@
 -- One word at a time: a word that names no flag is refused, or it is what it is without flags.
-use Rattle.std.proofs.Common.{◌≡◌, ◌∙◌, ℕ, Bool, cond, true, false, zero, suc, refl, sym, ap, ap₂, subst, List, [], ◌∷◌, drop, length, Option, Some, None, inl, inr}
-use Rattle.std.specs.Prelude.{◌⊎◌, ⊤, bytes_eq, encode_utf8, slice_get}
-use Rattle.std.specs.Option.{option_map_or}
-use Rattle.std.specs.List.{fold}
+use Rattle.command_words.proofs.Common.{◌≡◌, ◌∙◌, ℕ, Bool, cond, true, false, zero, suc, refl, sym, ap, ap₂, subst, List, [], ◌∷◌, drop, length, Option, Some, None, inl, inr, ◌⊎◌, ⊤, bytes_eq}
+use Rattle.command_words.proofs.Common.{encode_utf8, slice_get, option_map_or, fold, long_of, short_of, Held, Names, Row, Step, Text, Waiting, Walk, after_flag, after_step, arg_by_index, arg_by_long}
+use Rattle.command_words.proofs.Common.{arg_by_short, bundle_met, bundle_step, finished, idle, long_or_other, plain, plain_word, settled, short_or_plain, subcommand_met, subcommand_or_other}
+use Rattle.command_words.proofs.Common.{to_positional, trailing, value, walked, word_met, Shape, Kinds, or_else, bundle_fault, bundle_step_fault, check_fault, defaults_fault, flag_word_fault}
+use Rattle.command_words.proofs.Common.{flags_fault, long_fault, other_fault, positional_fault, settle_fault, short_fault, step_fault, stray_fault, turn_fault, walk_fault, word_fault}
 use Rattle.std.specs.Str.{chars}
-use Rattle.clap.specs.Lexer.{long_of, short_of}
-use Rattle.clap.specs.Walk.{Held, Names, Row, Step, Text, Waiting, Walk, after_flag, after_step, arg_by_index, arg_by_long, arg_by_short, bundle_met, bundle_step, finished, idle, long_or_other, plain, plain_word, settled, short_or_plain, subcommand_met, subcommand_or_other, to_positional, trailing, value, walked, word_met}
-use Rattle.clap.specs.Simple.{Shape}
-use Rattle.clap.specs.Kinds.{Kinds, or_else}
-use Rattle.clap.specs.Faults.{bundle_fault, bundle_step_fault, check_fault, defaults_fault, flag_word_fault, flags_fault, long_fault, other_fault, positional_fault, settle_fault, short_fault, step_fault, stray_fault, turn_fault, walk_fault, word_fault}
 use Rattle.clap.specs.declared.error.ErrorKind.TheVariants.{UnknownArgument, InvalidSubcommand}
 use Rattle.command_words.proofs.WordParts.{long_parts, short_parts}
 

@@ -1,23 +1,12 @@
 -- All the words: the first names the command, and what stands behind it is read there. So the parse fails just where they ask for
 -- nothing.
-use Rattle.std.proofs.Common.{◌≡◌, ◌∙◌, ◌||◌, Bool, cond, true, false, true≢false, refl, sym, ap, ap₂, subst, List, [], ◌∷◌, Option, Some, None, option_map, codes}
-use Rattle.std.specs.Prelude.{bytes_eq}
-use Rattle.std.specs.Option.{is_some}
-use Rattle.std.specs.List.{fold, list_any}
-use Rattle.std.proofs.lemmas.Bool.{false_from_ne_true}
-use Rattle.std.proofs.lemmas.Slice.Eq.{bytes_eq-Decides}
-use Rattle.clap.specs.Walk.{Names, Text, Walk, finished, idle, nothing_held, subcommand_met, walked}
-use Rattle.clap.specs.Simple.{App, built, entered, names_of, subcommand_of}
-use Rattle.clap.specs.Kinds.{IsAmong, Kinds, or_else}
-use Rattle.clap.specs.Faults.{entered_fault, fault_of, level_fault, turn_fault, walk_fault}
+use Rattle.command_words.proofs.Common.{◌≡◌, ◌∙◌, ◌||◌, Bool, cond, true, false, true≢false, refl, sym, ap, ap₂, subst, List, [], ◌∷◌, Option, Some, None, option_map, codes, bytes_eq, is_some, fold}
+use Rattle.command_words.proofs.Common.{list_any, false_from_ne_true, bytes_eq-Decides, Names, Text, Walk, finished, idle, nothing_held, subcommand_met, walked, built, entered, names_of}
+use Rattle.command_words.proofs.Common.{subcommand_of, IsAmong, Kinds, or_else, entered_fault, fault_of, level_fault, turn_fault, walk_fault, clap_on_literals, walk_stopped, Asked, Baseline, Init}
+use Rattle.command_words.proofs.Common.{Listing, Source, alone, asked_of, demo_of, no_options, one_word, options_of, plainly, run_with, status_of, asked_by, command_line, leaf}
+use Rattle.clap.specs.Simple.{App}
 use Rattle.clap.specs.declared.error.kind.ErrorKind.{ErrorKind}
-use Rattle.clap.proofs.OnLiterals.{clap_on_literals}
 use Rattle.clap.proofs.FaultLemmas.{stopped_fault}
-use Rattle.clap.proofs.WalkLemmas.{walk_stopped}
-use Rattle.command_words.specs.declared.asked.Asked.{Asked}
-use Rattle.command_words.specs.declared.command.Command.TheVariants.{Baseline, Init, List as Listing, Source}
-use Rattle.command_words.specs.Commands.{alone, asked_of, demo_of, no_options, one_word, options_of, plainly, run_with, status_of}
-use Rattle.command_words.specs.Program.{asked_by, command_line, leaf}
 use Rattle.command_words.proofs.DemoWords.{demo, demo_words}
 use Rattle.command_words.proofs.DemoWords as demos
 use Rattle.command_words.proofs.OptionList.{dashes_none, run_words}

@@ -1,29 +1,19 @@
 -- How a word looks to the lexer: what a word is that it takes for a flag, and the first character of such a word.
-use Rattle.std.proofs.Common.{◌≡◌, ◌∙◌, ◌==◌, ◌<◌, ℕ, Bool, cond, true, false, true≢false, refl, sym, ap, List, [], ◌∷◌, ◌++◌, take, arith, ◌+◌, suc, Option, Some, None, inl, inr, IsUtf8, chars, encode_utf8_all, map, String, string_bytes}
-use Rattle.std.specs.Prelude.{◌⊎◌, ⊤, option_and_then, slice_get}
-use Rattle.std.specs.Option.{is_some, option_map_or}
-use Rattle.std.specs.List.{before_first, position_or_len}
-use Rattle.std.proofs.lemmas.Bool.Decides.{Decides-eqb}
+use Rattle.command_words.proofs.Common.{◌≡◌, ◌∙◌, ◌==◌, ◌<◌, ℕ, Bool, cond, true, false, refl, sym, ap, List, [], ◌∷◌, ◌++◌, take, arith, ◌+◌, suc, Option, Some, None, inl, inr, IsUtf8, chars}
+use Rattle.command_words.proofs.Common.{encode_utf8_all, map, String, string_bytes, ◌⊎◌, ⊤, option_and_then, slice_get, option_map_or, before_first, position_or_len, Decides-eqb, long_of}
+use Rattle.command_words.proofs.Common.{long_of_rest, short_of, short_of_rest, strip_byte, Text, same_Some, none-some}
 use Rattle.std.proofs.lemmas.Str.{IsUtf8-past_char, IsUtf8-string_bytes, encode_ascii, encodes-chars}
-use Rattle.clap.specs.Lexer.{long_of, long_of_rest, short_of, short_of_rest, strip_byte}
-use Rattle.clap.specs.Walk.{Text}
-
-pub none_is_no_some : {X : Type 0} (x : X) → None ≡ Some x → ⊥
-none_is_no_some x e = true≢false (sym (ap is_some e))
-
-pub some_is : {X : Type 0} (x y : X) → Some x ≡ Some y → x ≡ y
-some_is x y e = ap (λ o. option_map_or (λ z. z) o x) e
 
 pub same_byte : (x c : ℕ) → (x == c) ≡ true → x ≡ c
 same_byte x c e = (Decides-eqb x c).0 e
 
 stripped : (c : ℕ) (word rest : Text) → strip_byte c word ≡ Some rest → word ≡ c ∷ rest
-stripped c [] rest e = absurd (none_is_no_some rest e)
+stripped c [] rest e = absurd (none-some rest e)
 stripped c (x ∷ xs) rest e = go (x == c) refl
   where
     go : (b : Bool) → (x == c) ≡ b → x ∷ xs ≡ c ∷ rest
-    go true same = let tail : xs ≡ rest = some_is xs rest (rw same at e) in ap (λ y. y ∷ xs) (same_byte x c same) ∙ ap (λ ys. c ∷ ys) tail
-    go false other = absurd (none_is_no_some rest (rw other at e))
+    go true same = let tail : xs ≡ rest = same_Some xs rest (rw same at e) in ap (λ y. y ∷ xs) (same_byte x c same) ∙ ap (λ ys. c ∷ ys) tail
+    go false other = absurd (none-some rest (rw other at e))
 
 -- ---- flags
 
@@ -32,17 +22,17 @@ pub long_parts : (word : Text) (p : Text × Option Text) → long_of word ≡ So
 long_parts word p e = first (strip_byte 45 word) refl e
   where
     last : (rest : Text) → word ≡ 45 ∷ 45 ∷ rest → long_of_rest rest ≡ Some p → (rest : Text) × (word ≡ 45 ∷ 45 ∷ rest) × (p.0 ≡ before_first (λ x. x == 61) rest)
-    last [] is none = absurd (none_is_no_some p none)
+    last [] is none = absurd (none-some p none)
     last (x ∷ xs) is some = (x ∷ xs, is, ap (λ o. option_map_or (λ q. q.0) o p.0) (sym some))
 
     second : (one : Text) → word ≡ 45 ∷ one → (a : Option Text) → strip_byte 45 one ≡ a → option_and_then long_of_rest a ≡ Some p
         → (rest : Text) × (word ≡ 45 ∷ 45 ∷ rest) × (p.0 ≡ before_first (λ x. x == 61) rest)
-    second one is None s none = absurd (none_is_no_some p none)
+    second one is None s none = absurd (none-some p none)
     second one is (Some rest) s some = last rest (is ∙ ap (λ xs. 45 ∷ xs) (stripped 45 one rest s)) some
 
     first : (a : Option Text) → strip_byte 45 word ≡ a → option_and_then long_of_rest (option_and_then (strip_byte 45) a) ≡ Some p
         → (rest : Text) × (word ≡ 45 ∷ 45 ∷ rest) × (p.0 ≡ before_first (λ x. x == 61) rest)
-    first None s none = absurd (none_is_no_some p none)
+    first None s none = absurd (none-some p none)
     first (Some one) s some = second one (stripped 45 word one s) (strip_byte 45 one) refl some
 
 -- a word that the lexer takes for short flags is a hyphen and these
@@ -50,15 +40,15 @@ pub short_parts : (word flags : Text) → short_of word ≡ Some flags → word 
 short_parts word flags e = first (strip_byte 45 word) refl e
   where
     last : (rest : Text) → word ≡ 45 ∷ rest → short_of_rest rest ≡ Some flags → word ≡ 45 ∷ flags
-    last [] is none = absurd (none_is_no_some flags none)
+    last [] is none = absurd (none-some flags none)
     last (x ∷ xs) is some = go (x == 45) some
       where
         go : (b : Bool) → cond b None (Some (x ∷ xs)) ≡ Some flags → word ≡ 45 ∷ flags
-        go true none = absurd (none_is_no_some flags none)
-        go false e = is ∙ ap (λ rest. 45 ∷ rest) (some_is (x ∷ xs) flags e)
+        go true none = absurd (none-some flags none)
+        go false e = is ∙ ap (λ rest. 45 ∷ rest) (same_Some (x ∷ xs) flags e)
 
     first : (a : Option Text) → strip_byte 45 word ≡ a → option_and_then short_of_rest a ≡ Some flags → word ≡ 45 ∷ flags
-    first None s none = absurd (none_is_no_some flags none)
+    first None s none = absurd (none-some flags none)
     first (Some rest) s some = last rest (stripped 45 word rest s) some
 
 -- ---- characters
@@ -72,9 +62,9 @@ pub first_byte : (flags : Text) → IsUtf8 flags → (c : ℕ) → c < 128 → s
 first_byte flags text c small is = go (chars flags) (encodes-chars flags text) is
   where
     go : (cs : List ℕ) → encode_utf8_all cs ≡ flags → slice_get cs 0 ≡ Some c → (rest : Text) × (flags ≡ c ∷ rest)
-    go [] e none = absurd (none_is_no_some c none)
+    go [] e none = absurd (none-some c none)
     go (x ∷ xs) e some =
-        (encode_utf8_all xs, sym e ∙ ap (λ y. encode_utf8_all (y ∷ xs)) (some_is x c some) ∙ ap (λ l. l ++ encode_utf8_all xs) (encode_ascii c small))
+        (encode_utf8_all xs, sym e ∙ ap (λ y. encode_utf8_all (y ∷ xs)) (same_Some x c some) ∙ ap (λ l. l ++ encode_utf8_all xs) (encode_ascii c small))
 
 -- each word is a text
 abbrev pub AreTexts : List Text → Type 0

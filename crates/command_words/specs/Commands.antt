@@ -12,10 +12,6 @@ use Rattle.command_words.specs.declared.asked.Asked.{Asked}
 abbrev pub is_numeral : List ℕ → Bool
 is_numeral word = list_all is_ascii_digit word && (nat_le 1 (length word) && nat_le (length word) 10)
 
--- the number that such a word says, if it is below 2 ^ 32
-abbrev pub small_number : List ℕ → Option ℕ
-small_number word = if is_numeral word && nat_lt (digits_value 10 word) (2 ^ 32) then Some (digits_value 10 word) else None
-
 -- a run may have this number of tests under way at once
 abbrev pub is_jobs : ℕ → Bool
 is_jobs number = nat_le 1 number && nat_le number 64
@@ -200,3 +196,9 @@ command_of words = option_map (λ (asked : Asked). asked.command) (asked_of word
 
 abbrev pub mutations_of : List (List ℕ) → List ℕ
 mutations_of words = elim (asked_of words) [ None ↦ [] | Some asked ↦ asked.mutations ]
+
+-- For proofs alone.
+
+-- the number that such a word says, if it is below 2 ^ 32
+abbrev pub small_number : List ℕ → Option ℕ
+small_number word = if is_numeral word && nat_lt (digits_value 10 word) (2 ^ 32) then Some (digits_value 10 word) else None

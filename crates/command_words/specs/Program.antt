@@ -6,6 +6,8 @@ use Rattle.command_words.specs.Commands.{cells_number, demo_with, jobs_number, m
 use Rattle.command_words.specs.declared.asked.Asked.{Asked}
 use Rattle.command_words.specs.declared.command.Command.TheVariants.{Init, Run, List as Listing, Status, Source, Baseline}
 
+-- For proofs alone.
+
 -- no word before the commands is the program's name, and none asks for help
 abbrev pub bare_program : App
 bare_program = record {

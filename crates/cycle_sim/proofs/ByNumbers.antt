@@ -1,16 +1,8 @@
 -- What cells come to by the numbers at their ports.
-use Rattle.std.proofs.Common.{◌≡◌, ◌≢◌, ℕ, zero, suc, ◌+◌, ◌/◌, ◌%◌, ◌^◌, ◌<◌, ◌≤◌, Bool, true, false, List, [], ◌∷◌, bit_and, bit_or, not, nat_eq, refl, sym, ◌∙◌, ap, subst, inl, inr, arith}
-use Rattle.std.specs.Prelude.{bit_xor}
-use Rattle.std.proofs.lemmas.Bool.Decides.{eqb_tells}
-use Rattle.netlist_core.specs.declared.cell.CellKind.{CellKind}
-use Rattle.netlist_core.specs.declared.cell.CellKind.TheVariants.{And, Or, Xor, Add, Eq, Mux}
-use Rattle.netlist_core.specs.Numbers.{digit, number, low_bits}
-use Rattle.netlist_core.specs.Cells.{some_one}
-use Rattle.cell_meaning.specs.Words.{HasValue}
-use Rattle.cell_meaning.proofs.Parts.{wrapped}
-use Rattle.cycle_sim.specs.declared.parts.Wires.{Wires}
-use Rattle.cycle_sim.specs.Parts.{parts_number, wires_bits}
+use Rattle.cycle_sim.proofs.Common.{◌≡◌, ◌≢◌, ℕ, zero, suc, ◌+◌, ◌/◌, ◌%◌, ◌^◌, ◌<◌, ◌≤◌, Bool, true, false, List, [], ◌∷◌, bit_and, bit_or, not, nat_eq, sym, ◌∙◌, ap, subst, inl, inr, arith, bit_xor}
+use Rattle.cycle_sim.proofs.Common.{eqb_tells, CellKind, And, Or, Xor, Add, Eq, Mux, digit, number, low_bits, some_one, HasValue, wrapped, Wires, parts_number, wires_bits}
 use Rattle.cycle_sim.proofs.PartNumbers.{pow-next}
+use Rattle.cell_meaning.proofs.Digits.{bits-some, bits-zero}
 
 number-low : (w n : ℕ) → n < 2 ^ w → number (low_bits w n) ≡ n
 unfolding low_bits
@@ -24,21 +16,11 @@ number-low (suc w) n small =
 pub read-bits : (table : List ℕ) (wires : Wires) (n : ℕ) → n ≡ parts_number table wires.parts → n < 2 ^ wires.width → number (wires_bits table wires) ≡ n
 read-bits table wires n is fits = ap (λ (k : ℕ). number (low_bits wires.width k)) (sym is) ∙ number-low wires.width n fits
 
-none-set : (bits : List Bool) → number bits ≡ 0 → some_one bits ≡ false
-none-set [] none = refl
-none-set (true ∷ more) none = absurd (omega (arith, none))
-none-set (false ∷ more) none = none-set more (omega (arith, none))
-
-one-set : (bits : List Bool) → number bits ≢ 0 → some_one bits ≡ true
-one-set [] some = absurd (some refl)
-one-set (true ∷ more) some = refl
-one-set (false ∷ more) some = one-set more (omega (arith, some))
-
 -- one of the bits is set where the number is not 0
 pub set-is : (bits : List Bool) (n : ℕ) → number bits ≡ n → some_one bits ≡ not (nat_eq n 0)
 set-is bits n is = elim (eqb_tells n 0) [
-  | inl h ↦ rw h.0 (none-set bits (is ∙ h.1))
-  | inr h ↦ rw h.0 (one-set bits (λ none. h.1 (sym is ∙ none)))
+  | inl h ↦ rw h.0 (bits-zero bits (is ∙ h.1))
+  | inr h ↦ rw h.0 (bits-some bits (λ none. h.1 (sym is ∙ none)))
 ]
 
 pub first-selected : (s a b : List Bool) (n : ℕ) (signed : Bool) (w : ℕ) → some_one s ≡ false → number a ≡ n → HasValue n Mux signed w (s ∷ a ∷ b ∷ [])

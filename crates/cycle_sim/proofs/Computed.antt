@@ -1,18 +1,7 @@
 -- A cell among the others: its gate, and its number's place in the table.
-use Rattle.std.proofs.Common.{◌≡◌, ℕ, zero, suc, ◌+◌, ◌<◌, List, [], ◌∷◌, ◌++◌, length, get_or, slice_get, Some, refl, ◌∙◌, ap, arith}
-use Rattle.std.proofs.lemmas.Option.{slice_get_read}
-use Rattle.netlist_core.specs.declared.bit.Bit.{Bit}
-use Rattle.netlist_core.specs.declared.cell.Cell.{Cell}
-use Rattle.netlist_core.specs.declared.raw.RawNetlist.{RawNetlist}
-use Rattle.netlist_core.specs.Checked.{Plan}
-use Rattle.netlist_core.specs.Solutions.{FitPorts, driving}
-use Rattle.cycle_sim.specs.declared.parts.Gate.{Gate}
-use Rattle.cycle_sim.specs.Gates.{IsGate, IsGateOf, AllGates}
+use Rattle.cycle_sim.proofs.Common.{◌≡◌, ℕ, zero, suc, ◌+◌, ◌<◌, List, [], ◌∷◌, ◌++◌, length, get_or, slice_get, Some, refl, ap, arith, Bit, Cell, RawNetlist, Plan, FitPorts, driving, Gate, IsGate}
+use Rattle.cycle_sim.proofs.Common.{IsGateOf, AllGates}
 use Rattle.cycle_sim.proofs.Plans.{driving-length, fit-length}
-
--- a cell that was read is the one there
-pub cell-found : (cells read : List Cell) (i : ℕ) (cell : Cell) → read ≡ cells → i < length cells → cell ≡ get_or read i cell → slice_get cells i ≡ Some cell
-cell-found cells read i cell same h is = slice_get_read cells (length cells) i cell refl h (is ∙ ap (λ (list : List Cell). get_or list i cell) same)
 
 -- the gate of a cell among those of all
 pub gates-length : (drivers : List (List Bit)) (gates : List Gate) (cells : List Cell) → AllGates drivers gates cells → length gates ≡ length cells

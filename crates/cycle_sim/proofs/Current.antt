@@ -1,25 +1,10 @@
 -- What a number that is put leaves as it should be, and the cycle that comes of all.
-use Rattle.std.proofs.Common.{◌≡◌, ◌≢◌, ℕ, zero, suc, ◌+◌, ◌%◌, ◌^◌, ◌<◌, ◌≤◌, Bool, List, [], ◌∷◌, ◌++◌, length, take, drop, get_or, set, slice_get, Option, Some, refl, sym, ◌∙◌, ap, subst, inl, inr, arith}
-use Rattle.std.specs.List.{All, Contains}
-use Rattle.std.proofs.lemmas.Bool.Decides.{eqb_tells}
-use Rattle.std.proofs.lemmas.Bool.{cases_lt}
-use Rattle.std.proofs.lemmas.Nat.{mod_below, pow_pos}
+use Rattle.cycle_sim.proofs.Common.{◌≡◌, ◌≢◌, ℕ, ◌+◌, ◌%◌, ◌^◌, ◌<◌, ◌≤◌, Bool, List, [], ◌∷◌, ◌++◌, length, take, drop, get_or, set, slice_get, Option, Some, refl, sym, ◌∙◌, ap, subst, inl, inr}
+use Rattle.cycle_sim.proofs.Common.{arith, All, Contains, eqb_tells, cases_lt, mod_below, pow_pos, get_or-set_same, get_or-set_other, get_or-take, length-take-le, get_or_default, take-map, drop-map}
+use Rattle.cycle_sim.proofs.Common.{take_at, drop_at, take-set-le, Bit, Cell, RawNetlist, number, cell_number, Nets, plain, values, bits_at, q_bits, input_ports, output_port, ports_seen, port_numbers}
+use Rattle.cycle_sim.proofs.Common.{Holds, times, times_at, y_bits, ports_of, Reads, Plan, IsSound, laid, number_at, all_zero, FitPorts, driving, values-agree, laid-other, nets_of, mark_at}
+use Rattle.cycle_sim.proofs.Common.{ReadsDriver, AreReaders, IsComputed, IsCurrent, IsPut, AreHeld, front, found-inside}
 use Rattle.std.proofs.lemmas.List.Elements.{Contains-get_or}
-use Rattle.std.proofs.lemmas.List.{get_or-set_same, get_or-set_other, get_or-take, length-take-le, get_or_default, take-map, drop-map, take_at, drop_at, take-set-le}
-use Rattle.netlist_core.specs.declared.bit.Bit.{Bit}
-use Rattle.netlist_core.specs.declared.cell.Cell.{Cell}
-use Rattle.netlist_core.specs.declared.raw.RawNetlist.{RawNetlist}
-use Rattle.netlist_core.specs.Numbers.{number}
-use Rattle.netlist_core.specs.Cells.{cell_number}
-use Rattle.netlist_core.specs.Runs.{Nets, plain, values, bits_at, q_bits, input_ports, output_port, ports_seen, port_numbers, Holds}
-use Rattle.netlist_core.specs.Drivers.{times, times_at, y_bits}
-use Rattle.netlist_core.specs.Orders.{ports_of, Reads}
-use Rattle.netlist_core.specs.Checked.{Plan, IsSound}
-use Rattle.netlist_core.specs.Settled.{laid, number_at, all_zero}
-use Rattle.netlist_core.specs.Solutions.{FitPorts, driving}
-use Rattle.netlist_core.proofs.Settles.{values-agree, laid-other}
-use Rattle.cycle_sim.specs.Simulated.{nets_of}
-use Rattle.cycle_sim.specs.Marks.{mark_at, ReadsDriver, AreReaders, IsComputed, IsCurrent, IsPut, AreHeld, front}
 use Rattle.cycle_sim.proofs.PartNumbers.{driver-number}
 use Rattle.cycle_sim.proofs.Laid.{set-lays}
 use Rattle.cycle_sim.proofs.Plans.{driving-once, driving-y, table-numbers, fit-length, fit-set}
@@ -64,11 +49,6 @@ module _ (plan : Plan) (sound : IsSound plan) (table : List ℕ) (fit : FitPorts
       let within = place-inside plan table c fit inside in
       get_or-set_same table (place raw c) v 0 within ∙ is g found ∙ ap (λ (x : ℕ). x % 2 ^ length (output_port g.ports)) (number-same c (place raw c) v g found apart within)
 
-found-inside : (cells : List Cell) (c : ℕ) (g : Cell) → slice_get cells c ≡ Some g → c < length cells
-found-inside [] c g found = absurd (cc)
-found-inside (x ∷ more) zero g found = omega arith
-found-inside (x ∷ more) (suc c) g found = (let rest = found-inside more c g found in omega (arith, rest))
-
 -- Places in the order.
 
 module _ (plan : Plan) (sound : IsSound plan) where
@@ -76,7 +56,7 @@ module _ (plan : Plan) (sound : IsSound plan) where
   cell_at k = get_or plan.order k 0
 
   pub cell-inside : (k : ℕ) → k < length plan.order → cell_at k < length plan.raw.cells
-  cell-inside k inside = (sound.order.places k inside).ready.cell
+  cell-inside k inside = (sound.order.places k inside).ready.node
 
   -- a cell that was listed has another number
   order-apart : (j k : ℕ) → j < k → k < length plan.order → cell_at j ≢ cell_at k

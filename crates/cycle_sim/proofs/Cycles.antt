@@ -1,18 +1,8 @@
 -- A cycle that is settled, and what readers find in its table.
-use Rattle.std.proofs.Common.{◌≡◌, ℕ, zero, suc, ◌^◌, ◌<◌, ◌≤◌, List, [], ◌∷◌, length, get_or, slice_get, Some, sym, ◌∙◌, ap, subst, arith}
-use Rattle.std.proofs.lemmas.List.{length-map, get_or-map}
-use Rattle.netlist_core.specs.declared.bit.Bit.{Bit}
+use Rattle.cycle_sim.proofs.Common.{◌≡◌, ℕ, zero, suc, ◌^◌, ◌<◌, ◌≤◌, List, [], ◌∷◌, length, get_or, slice_get, Some, sym, ◌∙◌, ap, subst, arith, length-map, get_or-map, Bit, Register, number, Nets}
+use Rattle.cycle_sim.proofs.Common.{plain, values, bits_at, q_bits, d_bits, Holds, drivers, Plan, IsSound, AllWide, AllRegistersFit, FitPorts, driving, OneRunBySight, plain-causal, Wires, IsWired}
+use Rattle.cycle_sim.proofs.Common.{AllWired, IsReadable, parts_number, nets_of}
 use Rattle.netlist_core.specs.declared.port.Port as port
-use Rattle.netlist_core.specs.declared.port.Register.{Register}
-use Rattle.netlist_core.specs.Numbers.{number}
-use Rattle.netlist_core.specs.Runs.{Nets, plain, values, bits_at, q_bits, d_bits, Holds}
-use Rattle.netlist_core.specs.Drivers.{drivers}
-use Rattle.netlist_core.specs.Checked.{Plan, IsSound, AllWide, AllRegistersFit}
-use Rattle.netlist_core.specs.Solutions.{FitPorts, driving, OneRunBySight}
-use Rattle.netlist_core.proofs.Settles.{plain-causal}
-use Rattle.cycle_sim.specs.declared.parts.Wires.{Wires}
-use Rattle.cycle_sim.specs.Parts.{IsWired, AllWired, IsReadable, parts_number}
-use Rattle.cycle_sim.specs.Simulated.{nets_of}
 use Rattle.cycle_sim.proofs.Wired.{wired-readable, wired-at, wires-number}
 use Rattle.cycle_sim.proofs.Plans.{driving-narrow, table-numbers}
 
@@ -30,7 +20,7 @@ d-wide [] i all inside = absurd (omega (arith, inside))
 d-wide (r ∷ rs) zero all inside = (let same = all.0 in let some = r.start.some in let few = r.start.narrow in (omega (arith, same, some), omega (arith, same, few)))
 d-wide (r ∷ rs) (suc i) all inside = d-wide rs i all.2 (omega (arith, inside))
 
-wide-at : (ports : List (List Bit)) (i : ℕ) → AllWide ports → i < length ports → (1 ≤ length (get_or ports i [])) × (length (get_or ports i []) ≤ 128)
+pub wide-at : (ports : List (List Bit)) (i : ℕ) → AllWide ports → i < length ports → (1 ≤ length (get_or ports i [])) × (length (get_or ports i []) ≤ 128)
 wide-at [] i wide inside = absurd (omega (arith, inside))
 wide-at (bits ∷ more) zero wide inside = (wide.0, wide.1)
 wide-at (bits ∷ more) (suc i) wide inside = wide-at more i wide.2 (omega (arith, inside))

@@ -1,16 +1,8 @@
 -- What is laid for inputs and registers, and what readers find at the front of a table.
-use Rattle.std.proofs.Common.{◌≡◌, ℕ, zero, suc, ◌+◌, ◌^◌, ◌<◌, ◌≤◌, List, [], ◌∷◌, ◌++◌, map, length, take, drop, get_or, sym, ◌∙◌, ap, subst, arith}
-use Rattle.std.proofs.lemmas.List.{length-append, length-map, length-take-le, take_at, drop_at, get_or-map, get_or_append_left, get_or-append-add, take-take, drop-take}
-use Rattle.std.specs.Prelude.{slice_index}
-use Rattle.mcy_base.specs.declared.word.Word.{Word}
-use Rattle.netlist_core.specs.declared.bit.Bit.{Bit}
+use Rattle.cycle_sim.proofs.Common.{◌≡◌, ℕ, zero, suc, ◌+◌, ◌^◌, ◌<◌, ◌≤◌, List, [], ◌∷◌, ◌++◌, map, length, take, drop, get_or, sym, ◌∙◌, ap, subst, arith, length-append, length-map, length-take-le}
+use Rattle.cycle_sim.proofs.Common.{take_at, drop_at, get_or-map, get_or_append_left, get_or-append-add, take-take, drop-take, slice_index, Word, Bit, Register, RawNetlist, bits_at, q_bits, y_bits}
+use Rattle.cycle_sim.proofs.Common.{FitPorts, driving, numbers_of, HaveWidths}
 use Rattle.netlist_core.specs.declared.port.Port as port
-use Rattle.netlist_core.specs.declared.port.Register.{Register}
-use Rattle.netlist_core.specs.declared.raw.RawNetlist.{RawNetlist}
-use Rattle.netlist_core.specs.Runs.{bits_at, q_bits}
-use Rattle.netlist_core.specs.Drivers.{y_bits}
-use Rattle.netlist_core.specs.Solutions.{FitPorts, driving}
-use Rattle.cycle_sim.specs.Simulated.{numbers_of, HaveWidths}
 use Rattle.cycle_sim.proofs.Plans.{fit-words, words-length}
 
 -- Where inputs and registers stand among the drivers.

@@ -1,24 +1,8 @@
 -- What a gate computes is the number of its cell.
-use Rattle.std.proofs.Common.{◌≡◌, ℕ, zero, suc, ◌%◌, ◌^◌, ◌<◌, ◌≤◌, Bool, List, [], ◌∷◌, ◌++◌, map, length, get_or, slice_get, Option, Some, refl, sym, ◌∙◌, ap, subst, arith}
-use Rattle.std.proofs.lemmas.List.{map-append}
-use Rattle.mcy_base.specs.declared.word.Word.{Word}
-use Rattle.netlist_core.specs.declared.bit.Bit.{Bit}
-use Rattle.netlist_core.specs.declared.cell.Cell.{Cell}
-use Rattle.netlist_core.specs.declared.cell.CellKind.{CellKind}
-use Rattle.netlist_core.specs.Numbers.{low_bits}
-use Rattle.netlist_core.specs.Cells.{cell_value}
-use Rattle.netlist_core.specs.Shapes.{shape_of, HasWidths, HasShape}
-use Rattle.netlist_core.specs.Runs.{Nets, plain, input_ports, output_port, ports_seen}
-use Rattle.netlist_core.specs.Checked.{Plan, IsSound, AllWide}
-use Rattle.netlist_core.specs.Settled.{number_at}
-use Rattle.netlist_core.specs.Solutions.{FitPorts, driving}
-use Rattle.cell_meaning.specs.Words.{word_bits}
-use Rattle.cycle_sim.specs.declared.parts.Wires.{Wires}
-use Rattle.cycle_sim.specs.declared.parts.Gate.{Gate}
-use Rattle.cycle_sim.specs.Parts.{IsReadable, AllReadable, parts_number, wires_bits}
-use Rattle.cycle_sim.specs.Gates.{IsGate, IsGateOf, IsComputable, gate_number}
-use Rattle.cycle_sim.specs.Simulated.{nets_of}
-use Rattle.cycle_sim.proofs.CellShapes.{cell-shape, cell-wide, input-count, inputs-wide}
+use Rattle.cycle_sim.proofs.Common.{◌≡◌, ℕ, zero, suc, ◌%◌, ◌^◌, ◌<◌, ◌≤◌, Bool, List, [], ◌∷◌, ◌++◌, map, length, get_or, slice_get, Option, Some, refl, sym, ◌∙◌, ap, subst, arith, map-append, Word}
+use Rattle.cycle_sim.proofs.Common.{Bit, Cell, CellKind, low_bits, cell_value, shape_of, HasWidths, HasShape, Nets, plain, input_ports, output_port, ports_seen, Plan, IsSound, AllWide, number_at}
+use Rattle.cycle_sim.proofs.Common.{FitPorts, driving, word_bits, Wires, Gate, IsReadable, AllReadable, parts_number, wires_bits, IsGate, IsGateOf, IsComputable, gate_number, nets_of, cell-wide}
+use Rattle.cycle_sim.proofs.CellShapes.{input-count, inputs-wide}
 use Rattle.cycle_sim.proofs.Wired.{wired-length, wires-seen, wires-widths, all-readable}
 use Rattle.cycle_sim.proofs.Plans.{driving-narrow, table-numbers, y-narrow}
 use Rattle.cycle_sim.proofs.Computed.{item-some}
@@ -85,7 +69,7 @@ module _ (plan : Plan) (sound : IsSound plan) (table : List ℕ) (fit : FitPorts
 
   gate-shape : HasWidths (shape_of gate.kind) (map (λ (w : Wires). w.width) gate.ports ++ gate.width ∷ [])
   gate-shape =
-      let shape : HasShape cell = cell-shape plan sound c cell found in
+      let shape : HasShape cell = sound.connected.driven.shaped.shapes c cell found in
       let split : map length cell.ports ≡ map length ins ++ length y ∷ [] = ap (map length) (ports-split cell.ports (input-count cell shape).0) ∙ map-append (λ (b : List Bit). length b) ins (y ∷ []) in
       let all : map length cell.ports ≡ map (λ (w : Wires). w.width) gate.ports ++ gate.width ∷ [] = split
       ∙ ap (λ (l : List ℕ). l ++ length y ∷ []) (sym (wires-widths (driving plan.raw) gate.ports ins is.ports))
@@ -94,7 +78,7 @@ module _ (plan : Plan) (sound : IsSound plan) (table : List ℕ) (fit : FitPorts
 
   computable : IsComputable table gate
   computable =
-      let count = input-count cell (cell-shape plan sound c cell found) in
+      let count = input-count cell (sound.connected.driven.shaped.shapes c cell found) in
       let wide = cell-wide plan sound c cell found in
       let long = wired-length (driving plan.raw) gate.ports ins is.ports in
       let w = is.width in

@@ -1,21 +1,6 @@
 -- Wires that grow by a bit.
-use Rattle.std.proofs.Common.{◌≡◌, ℕ, zero, suc, ◌+◌, ◌-◌, ◌<◌, ◌≤◌, List, [], ◌∷◌, ◌++◌, length, take, drop, get_or, slice_get, Some, refl, sym, ◌∙◌, ap, subst, arith}
-use Rattle.std.proofs.lemmas.List.{append-nil, append_assoc, length-take, length-drop, take_more, drop_more, drop-drop, length_push}
-use Rattle.netlist_core.specs.declared.bit.Bit.{Bit}
-use Rattle.netlist_core.specs.Runs.{input_ports}
-use Rattle.cycle_sim.specs.declared.parts.Place.{Place}
-use Rattle.cycle_sim.specs.declared.parts.Source.{Source}
-use Rattle.cycle_sim.specs.declared.parts.Source.TheVariants.{Driver}
-use Rattle.cycle_sim.specs.declared.parts.Part.{Part}
-use Rattle.cycle_sim.specs.Parts.{source_bits, part_bits, all_bits, AllWhole}
-
--- all ports but the last
-pub inputs-take : (ports : List (List Bit)) → take (length ports - 1) ports ≡ input_ports ports
-inputs-take [] = refl
-inputs-take (y ∷ []) = refl
-inputs-take (a ∷ b ∷ more) =
-    let e : length (a ∷ b ∷ more) - 1 ≡ suc (length (b ∷ more) - 1) = omega arith in
-    ap (λ (k : ℕ). take k (a ∷ b ∷ more)) e ∙ ap (λ (l : List (List Bit)). a ∷ l) (inputs-take (b ∷ more))
+use Rattle.cycle_sim.proofs.Common.{◌≡◌, ℕ, zero, suc, ◌+◌, ◌<◌, ◌≤◌, List, [], ◌∷◌, ◌++◌, length, take, drop, get_or, slice_get, Some, sym, ◌∙◌, ap, subst, arith, append-nil, append_assoc}
+use Rattle.cycle_sim.proofs.Common.{length-take, length-drop, take_more, drop_more, drop-drop, length_push, Bit, Place, Source, Driver, Part, source_bits, part_bits, all_bits, AllWhole}
 
 -- the one bit at a place
 pub one-bit : (bits : List Bit) (k : ℕ) (b : Bit) → slice_get bits k ≡ Some b → take 1 (drop k bits) ≡ b ∷ []

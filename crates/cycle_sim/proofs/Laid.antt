@@ -1,13 +1,6 @@
 -- Laying numbers on nets that are driven once.
-use Rattle.std.proofs.Common.{◌≡◌, ◌≢◌, ℕ, zero, suc, ◌+◌, ◌/◌, ◌%◌, ◌<◌, ◌≤◌, Bool, List, [], ◌∷◌, ◌++◌, length, nat_eq, get_or, set, refl, sym, ◌∙◌, subst, ◌⊎◌, inl, inr, arith}
-use Rattle.std.proofs.lemmas.Bool.Decides.{eqb_tells}
-use Rattle.std.proofs.lemmas.Bool.{cases_lt}
-use Rattle.netlist_core.specs.declared.bit.Bit.{Bit}
-use Rattle.netlist_core.specs.declared.bit.Bit.TheVariants.{Fixed, Net}
-use Rattle.netlist_core.specs.Runs.{Nets}
-use Rattle.netlist_core.specs.Drivers.{times, times_at}
-use Rattle.netlist_core.specs.Settled.{with_net, laid, laid_all}
-use Rattle.netlist_core.proofs.Settles.{with_net-same, laid-other, laid_all-other}
+use Rattle.cycle_sim.proofs.Common.{◌≡◌, ◌≢◌, ℕ, zero, suc, ◌+◌, ◌/◌, ◌%◌, ◌<◌, ◌≤◌, Bool, List, [], ◌∷◌, ◌++◌, length, nat_eq, get_or, set, refl, sym, ◌∙◌, subst, ◌⊎◌, inl, inr, arith, eqb_tells}
+use Rattle.cycle_sim.proofs.Common.{cases_lt, Bit, Fixed, Net, Nets, times, times_at, with_net, laid, laid_all, with_net-same, laid-other, laid_all-other}
 
 pub times-cases : (m n : ℕ) (more : List Bit) → ((m ≡ n) × (times n (Net m ∷ more) ≡ 1 + times n more)) ⊎ ((m ≢ n) × (times n (Net m ∷ more) ≡ times n more))
 times-cases m n more = elim (eqb_tells m n) [

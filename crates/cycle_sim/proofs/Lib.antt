@@ -1,13 +1,14 @@
+mod Common
 mod PartNumbers
 mod Wired
 mod Laid
 mod CellShapes
-mod Plans
+pub mod Plans
 mod Placed
 mod Growing
 mod Lists
 mod Computed
-mod Cycles
+pub mod Cycles
 mod Reading
 mod Marking
 mod Current

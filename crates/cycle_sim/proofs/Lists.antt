@@ -1,11 +1,6 @@
 -- Lists that are written from the front.
-use Rattle.std.proofs.Common.{◌≡◌, ℕ, suc, zero, ◌+◌, ◌<◌, ◌≤◌, List, [], ◌∷◌, ◌++◌, length, take, drop, set, get_or, refl, ap, sym, ◌∙◌, arith}
-use Rattle.std.proofs.lemmas.List.{append_assoc, length-append, length-take-le, length-drop, drop-drop, take_more}
-use Rattle.mcy_base.specs.declared.word.Word.{Word}
-use Rattle.netlist_core.specs.declared.port.Register.{Register}
-use Rattle.netlist_core.specs.Numbers.{number}
-use Rattle.netlist_core.specs.Runs.{Nets, plain, taken, values}
-use Rattle.cycle_sim.specs.Simulated.{numbers_of}
+use Rattle.cycle_sim.proofs.Common.{◌≡◌, ℕ, suc, zero, ◌+◌, ◌<◌, ◌≤◌, List, [], ◌∷◌, ◌++◌, length, take, drop, set, get_or, refl, ap, sym, ◌∙◌, arith, append_assoc, length-append, length-take-le}
+use Rattle.cycle_sim.proofs.Common.{length-drop, drop-drop, take_more, Word, Register, number, Nets, plain, taken, values, numbers_of}
 
 pub set-next : (done rest : List ℕ) (i v : ℕ) → i ≡ length done → 0 < length rest → set (done ++ rest) i v ≡ (done ++ v ∷ []) ++ drop 1 rest
 set-next [] [] i v e h = absurd (omega (arith, h))

@@ -1,15 +1,8 @@
 -- Marks in words of 64 bits.
-use Rattle.std.proofs.Common.{◌≡◌, ◌≢◌, ℕ, ◌+◌, ◌-◌, ◌*◌, ◌/◌, ◌%◌, ◌^◌, ◌<◌, ◌≤◌, List, [], ◌∷◌, ◌++◌, length, take, get_or, set, sym, ◌∙◌, ap, subst, inl, inr, arith, w64}
-use Rattle.std.specs.List.{Contains}
+use Rattle.cycle_sim.proofs.Common.{◌≡◌, ◌≢◌, ℕ, ◌+◌, ◌-◌, ◌*◌, ◌/◌, ◌%◌, ◌^◌, ◌<◌, ◌≤◌, List, [], ◌∷◌, ◌++◌, length, take, get_or, set, sym, ◌∙◌, ap, subst, inl, inr, arith, w64, Contains, bit_at}
+use Rattle.cycle_sim.proofs.Common.{trailing_zeros, eqb_tells, cases_lt, shr-shr, shr_le, bit_at-zero, bit_at-trailing_zeros, bit_at_above, get_or-set_same, get_or-set_other, take_more, mark_at}
 use Rattle.std.specs.Prelude.{bit_and, bit_or}
-use Rattle.std.specs.Int.{bit_at, trailing_zeros}
-use Rattle.std.proofs.lemmas.Bool.Decides.{eqb_tells}
-use Rattle.std.proofs.lemmas.Bool.{cases_lt}
-use Rattle.std.proofs.lemmas.Nat.{shr-shr, shr_le}
-use Rattle.std.proofs.lemmas.Nat.Bits.{bit_at-zero, bit_at-trailing_zeros, bit_at_above}
-use Rattle.std.proofs.lemmas.List.{get_or-set_same, get_or-set_other, take_more}
 use Rattle.std.proofs.lemmas.List.Elements.{Contains-push, Contains-append_left, Contains-push_cases}
-use Rattle.cycle_sim.specs.Marks.{mark_at}
 
 -- a word with this bit 1, or 0
 abbrev pub set_bit : ℕ → ℕ → ℕ
@@ -30,10 +23,6 @@ mark-other marks p w k inside keeps other = elim (eqb_tells (k / 64) (p / 64)) [
       ap (λ (x : ℕ). bit_at x (k % 64)) word ∙ keeps (k % 64) (omega arith) apart ∙ ap (λ (j : ℕ). bit_at (get_or marks j 0) (k % 64)) (sym same.1))
   | inr off ↦ ap (λ (x : ℕ). bit_at x (k % 64)) (get_or-set_other marks (p / 64) (k / 64) w 0 off.1)
 ]
-
--- no mark in a word that is 0, nor past all
-pub mark-zero : (marks : List ℕ) (k : ℕ) → get_or marks (k / 64) 0 ≡ 0 → mark_at marks k ≡ 0
-mark-zero marks k none = ap (λ (x : ℕ). bit_at x (k % 64)) none ∙ bit_at-zero (k % 64)
 
 -- places that were marked, and one more
 pub marked-more : (old new : List ℕ) (places : List ℕ) (i : ℕ) → ((k : ℕ) → Contains (take i places) k → mark_at old k ≡ 1) → i < length places → mark_at new (get_or places i 0) ≡ 1 → ((k : ℕ) → k ≢ get_or places i 0 → mark_at new k ≡ mark_at old k) → (k : ℕ) → Contains (take (i + 1) places) k → mark_at new k ≡ 1

@@ -1,18 +1,8 @@
 -- The numbers of parts.
-use Rattle.std.proofs.Common.{◌≡◌, ℕ, zero, suc, ◌+◌, ◌-◌, ◌*◌, ◌/◌, ◌%◌, ◌^◌, ◌<◌, ◌≤◌, Bool, true, false, List, [], ◌∷◌, ◌++◌, length, take, drop, replicate, bit_and, get_or, refl, sym, ◌∙◌, ap, subst, arith}
-use Rattle.std.proofs.lemmas.Nat.{and_mask, pow_pos, pow-add, shr_high, mul-le, shl_whole}
-use Rattle.std.proofs.lemmas.List.{map-append, take-map, drop-map, take-append-drop, length-take-le, length-take, take_all}
-use Rattle.std.proofs.Math.Nat.{mod-eq_of_lt, add-mul-mod_self_left, pow-le-pow_right}
-use Rattle.netlist_core.specs.declared.bit.Bit.{Bit}
-use Rattle.netlist_core.specs.declared.bit.Bit.TheVariants.{Fixed}
-use Rattle.netlist_core.specs.Numbers.{number}
-use Rattle.netlist_core.specs.Runs.{Nets, bit_value, values, port_numbers}
-use Rattle.netlist_core.proofs.Settles.{length-values, number-fits}
-use Rattle.cell_meaning.proofs.Parts.{number-append, number-zeros, number-ones, number-drop}
-use Rattle.cycle_sim.specs.declared.parts.Source.{Source}
-use Rattle.cycle_sim.specs.declared.parts.Source.TheVariants.{Constant, Driver}
-use Rattle.cycle_sim.specs.declared.parts.Part.{Part}
-use Rattle.cycle_sim.specs.Parts.{source_bits, part_bits, all_bits, AllWhole, source_number, part_number, parts_number, total}
+use Rattle.cycle_sim.proofs.Common.{◌≡◌, ℕ, zero, suc, ◌+◌, ◌-◌, ◌*◌, ◌/◌, ◌%◌, ◌^◌, ◌<◌, ◌≤◌, Bool, true, false, List, [], ◌∷◌, ◌++◌, length, take, drop, replicate, bit_and, get_or, refl, sym, ◌∙◌}
+use Rattle.cycle_sim.proofs.Common.{ap, subst, arith, and_mask, pow_pos, pow-add, shr_high, mul-le, shl_whole, map-append, take-map, drop-map, take-append-drop, length-take-le, length-take, take_all}
+use Rattle.cycle_sim.proofs.Common.{mod-eq_of_lt, add-mul-mod_self_left, pow-le-pow_right, Bit, Fixed, number, Nets, bit_value, values, port_numbers, length-values, number-fits, number-append}
+use Rattle.cycle_sim.proofs.Common.{number-zeros, number-ones, number-drop, Source, Constant, Driver, Part, source_bits, part_bits, all_bits, AllWhole, source_number, part_number, parts_number, total}
 
 -- the greatest number of 128 bits, shifted down
 ones-at : (w k : ℕ) → w + k ≡ 128 → 340282366920938463463374607431768211455 / 2 ^ k ≡ 2 ^ w - 1

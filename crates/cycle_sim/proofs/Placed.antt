@@ -1,13 +1,6 @@
 -- Where nets are driven.
-use Rattle.std.proofs.Common.{◌≡◌, ℕ, zero, suc, ◌+◌, ◌<◌, ◌≤◌, Bool, List, [], ◌∷◌, ◌++◌, length, take, get_or, set, slice_get, Some, refl, sym, ◌∙◌, ap, subst, inl, inr, arith}
-use Rattle.std.proofs.lemmas.Bool.{cases_lt}
-use Rattle.std.proofs.lemmas.List.{take_more, get_or-set_same, get_or-set_other, take_all}
-use Rattle.std.proofs.lemmas.Option.{slice_get-get_or}
-use Rattle.netlist_core.specs.declared.bit.Bit.{Bit}
-use Rattle.netlist_core.specs.declared.bit.Bit.TheVariants.{Fixed, Net}
-use Rattle.netlist_core.specs.Drivers.{times, times_at}
-use Rattle.cycle_sim.specs.declared.parts.Place.{Place}
-use Rattle.cycle_sim.specs.Places.{place_of, IsAt, ArePortsPlaced, AreMarked}
+use Rattle.cycle_sim.proofs.Common.{◌≡◌, ℕ, zero, suc, ◌+◌, ◌<◌, ◌≤◌, Bool, List, [], ◌∷◌, ◌++◌, length, take, get_or, set, slice_get, Some, refl, sym, ◌∙◌, ap, subst, inl, inr, arith, cases_lt}
+use Rattle.cycle_sim.proofs.Common.{take_more, get_or-set_same, get_or-set_other, slice_get-get_or, Bit, Fixed, Net, times, times_at, Place, place_of, IsAt, AreMarked}
 use Rattle.cycle_sim.proofs.Laid.{times-cases, times_at-append}
 
 pub times-append : (n : ℕ) (xs ys : List Bit) → times n (xs ++ ys) ≡ times n xs + times n ys
@@ -45,9 +38,6 @@ times-self n = elim (times-cases n n []) [ inl h ↦ (let e = h.1 in omega (arit
 
 abbrev nowhere : Place
 nowhere = record { driver = 0; bit = 0 }
-
-pub marked-none : (driver : ℕ) (whole : List Bit) (old : List Place) → AreMarked driver [] whole old old
-marked-none driver whole old = record { marked = λ n some. absurd (omega (arith, some)); kept = λ n none. refl }
 
 -- a net more
 module _ (driver : ℕ) (bits whole : List Bit) (old new : List Place) (i m : ℕ) (d : Bit) (are : AreMarked driver (take i bits) whole old new) (inside : i < length bits) (same : bits ≡ whole) (is : get_or bits i d ≡ Net m) (room : m < length new) where
@@ -107,6 +97,3 @@ placed-more drivers count old new first inside are n some =
           (let keeps = are.kept n (omega (arith, none)) in
           subst (λ (p : Place). IsAt drivers p n) (sym keeps) (first n (omega (arith, some, t, none))))
     ]
-
-pub placed-all : (drivers : List (List Bit)) (count : ℕ) (places : List Place) → length drivers ≤ count → FirstPlaced drivers count places → ArePortsPlaced drivers places drivers
-placed-all drivers count places whole first = subst (λ (l : List (List Bit)). (n : ℕ) → 1 ≤ times_at n l → IsAt drivers (place_of places n) n) (take_all count drivers whole) first

@@ -1,22 +1,10 @@
 -- The drivers of a sound netlist.
-use Rattle.std.proofs.Common.{◌≡◌, ℕ, zero, suc, ◌+◌, ◌^◌, ◌<◌, ◌≤◌, List, [], ◌∷◌, ◌++◌, length, map, replicate, get_or, set, slice_get, Some, refl, sym, ◌∙◌, ap, subst, inl, inr, arith}
-use Rattle.std.proofs.lemmas.Bool.{cases_lt}
-use Rattle.std.proofs.lemmas.Nat.{pow_pos}
-use Rattle.std.proofs.lemmas.List.{length-append, length-map, get_or-append-add}
-use Rattle.mcy_base.specs.declared.word.Word.{Word}
-use Rattle.netlist_core.specs.declared.bit.Bit.{Bit}
-use Rattle.netlist_core.specs.declared.cell.Cell.{Cell}
+use Rattle.cycle_sim.proofs.Common.{◌≡◌, ℕ, zero, suc, ◌+◌, ◌^◌, ◌<◌, ◌≤◌, List, [], ◌∷◌, ◌++◌, length, map, replicate, get_or, set, slice_get, Some, refl, sym, ◌∙◌, ap, subst, inl, inr, arith}
+use Rattle.cycle_sim.proofs.Common.{cases_lt, pow_pos, length-append, length-map, get_or-append-add, Word, Bit, Cell, Register, RawNetlist, bits_at, q_bits, output_port, port_numbers, plain, taken}
+use Rattle.cycle_sim.proofs.Common.{values, Nets, number, times_at, y_bits, drivers, readers, AllWide, AllPortsNets, AllRegistersFit, AllCellsWide, Plan, IsSound, FitPorts, driving, all_zero}
+use Rattle.cycle_sim.proofs.Common.{length-values, number-fits, laid_all-numbers, nets_of, numbers_of, HaveWidths}
 use Rattle.netlist_core.specs.declared.port.Port as port
-use Rattle.netlist_core.specs.declared.port.Register.{Register}
-use Rattle.netlist_core.specs.declared.raw.RawNetlist.{RawNetlist}
-use Rattle.netlist_core.specs.Runs.{bits_at, q_bits, output_port, port_numbers, plain, taken, values, Nets}
-use Rattle.netlist_core.specs.Numbers.{number}
-use Rattle.netlist_core.specs.Drivers.{times_at, y_bits, drivers, readers}
-use Rattle.netlist_core.specs.Checked.{AllWide, AllPortsNets, AllRegistersFit, AllCellsWide, all_bits, Plan, IsSound}
-use Rattle.netlist_core.specs.Solutions.{FitPorts, driving}
-use Rattle.netlist_core.specs.Settled.{all_zero}
-use Rattle.netlist_core.proofs.Settles.{length-values, number-fits, laid_all-numbers}
-use Rattle.cycle_sim.specs.Simulated.{nets_of, numbers_of, HaveWidths}
+use Rattle.netlist_core.specs.Checked.{all_bits}
 use Rattle.cycle_sim.proofs.Laid.{times_at-append}
 use Rattle.cycle_sim.proofs.Wired.{AllNarrow}
 
@@ -144,11 +132,11 @@ driving-length raw =
     let e = length-map raw.cells (λ (c : Cell). output_port c.ports) in
     omega (arith, outer, inner, a, b, e)
 
-ports-few : (ports : List (List Bit)) → AllWide ports → length ports ≤ all_bits ports
+pub ports-few : (ports : List (List Bit)) → AllWide ports → length ports ≤ all_bits ports
 ports-few [] wide = omega arith
 ports-few (bits ∷ more) wide = (let rest = ports-few more wide.2 in let here = wide.0 in omega (arith, rest, here))
 
-registers-few : (rs : List Register) → AllRegistersFit rs → length rs ≤ all_bits (q_bits rs)
+pub registers-few : (rs : List Register) → AllRegistersFit rs → length rs ≤ all_bits (q_bits rs)
 registers-few [] all = omega arith
 registers-few (r ∷ rs) all = (let rest = registers-few rs all.2 in let some = r.start.some in let same = all.1 in omega (arith, rest, some, same))
 

@@ -1,21 +1,8 @@
 -- The cells that read each driver.
-use Rattle.std.proofs.Common.{◌≡◌, ℕ, zero, suc, ◌+◌, ◌<◌, ◌≤◌, ◌⊎◌, Bool, List, [], ◌∷◌, ◌++◌, length, take, replicate, get_or, set, slice_get, Some, refl, sym, ◌∙◌, ap, subst, inl, inr, arith}
-use Rattle.std.specs.List.{Contains}
-use Rattle.std.proofs.lemmas.Bool.Decides.{eqb_tells}
-use Rattle.std.proofs.lemmas.Bool.{cases_lt}
-use Rattle.std.proofs.lemmas.List.{length-set, get_or-set_same, get_or-set_other, get_or_past, length-replicate}
+use Rattle.cycle_sim.proofs.Common.{◌≡◌, ℕ, zero, suc, ◌+◌, ◌<◌, ◌≤◌, ◌⊎◌, Bool, List, [], ◌∷◌, ◌++◌, length, take, replicate, get_or, set, slice_get, Some, refl, sym, ◌∙◌, ap, subst, inl, inr, arith}
+use Rattle.cycle_sim.proofs.Common.{Contains, eqb_tells, cases_lt, length-set, get_or-set_same, get_or-set_other, get_or_past, length-replicate, Bit, Fixed, Net, input_ports, times, times_at, readers}
+use Rattle.cycle_sim.proofs.Common.{ports_of, Plan, IsSound, driving, Place, place_of, IsAt, ArePortsPlaced, AreReaders, AreAdded, cell-reads}
 use Rattle.std.proofs.lemmas.List.Elements.{Contains-push, Contains-append_left, Contains-push_cases}
-use Rattle.netlist_core.specs.declared.bit.Bit.{Bit}
-use Rattle.netlist_core.specs.declared.bit.Bit.TheVariants.{Fixed, Net}
-use Rattle.netlist_core.specs.Runs.{input_ports}
-use Rattle.netlist_core.specs.declared.cell.Cell.{Cell}
-use Rattle.netlist_core.specs.Drivers.{times, times_at, cell_readers, readers}
-use Rattle.netlist_core.specs.Orders.{ports_of}
-use Rattle.netlist_core.specs.Checked.{Plan, IsSound}
-use Rattle.netlist_core.specs.Solutions.{driving}
-use Rattle.cycle_sim.specs.declared.parts.Place.{Place}
-use Rattle.cycle_sim.specs.Places.{place_of, IsAt, ArePortsPlaced}
-use Rattle.cycle_sim.specs.Marks.{AreReaders, AreAdded}
 use Rattle.cycle_sim.proofs.Laid.{times-cases}
 use Rattle.cycle_sim.proofs.Placed.{times-self, times-at, times-more, times_at-more}
 use Rattle.cycle_sim.proofs.Plans.{driving-once}
@@ -208,11 +195,6 @@ readers-are plan sound places lists placed upto driven = record {
       (o.0, (n, o.2, subst (λ (e : ℕ). 1 ≤ times n (get_or (driving plan.raw) e [])) o.3 (net-among n (get_or (driving plan.raw) (place_of places n).driver []) (place_of places n).bit at))));
 }
 
-readers-at : (cells : List Cell) (c n : ℕ) → times_at n (input_ports (ports_of (slice_get cells c))) ≤ cell_readers cells n
-readers-at [] c n = omega arith
-readers-at (x ∷ more) zero n = omega arith
-readers-at (x ∷ more) (suc c) n = (let rest = readers-at more c n in omega (arith, rest))
-
 -- what is read at a place is read in the netlist
 pub ins-read : (plan : Plan) (j n : ℕ) → 1 ≤ times_at n (ins_at plan j) → 1 ≤ readers plan.raw n
-ins-read plan j n some = (let all = readers-at plan.raw.cells (get_or plan.order j 0) n in omega (arith, some, all))
+ins-read plan j n some = (let all = cell-reads plan.raw.cells (get_or plan.order j 0) n in omega (arith, some, all))

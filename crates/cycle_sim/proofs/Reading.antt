@@ -1,21 +1,8 @@
 -- What is read is driven, and has a place.
-use Rattle.std.proofs.Common.{◌≡◌, ℕ, zero, suc, ◌+◌, ◌<◌, ◌≤◌, List, [], ◌∷◌, ◌++◌, length, take, get_or, sym, ◌∙◌, ap, subst, arith}
-use Rattle.std.proofs.lemmas.List.{length-map, get_or-map, take_more}
-use Rattle.netlist_core.specs.declared.bit.Bit.{Bit}
-use Rattle.netlist_core.specs.declared.cell.Cell.{Cell}
+use Rattle.cycle_sim.proofs.Common.{◌≡◌, ℕ, zero, suc, ◌+◌, ◌<◌, ◌≤◌, List, [], ◌∷◌, ◌++◌, length, take, get_or, sym, ◌∙◌, ap, subst, arith, length-map, get_or-map, take_more, Bit, Cell, Register}
+use Rattle.cycle_sim.proofs.Common.{RawNetlist, bits_at, d_bits, input_ports, output_port, times, times_at, cell_readers, readers, Plan, IsSound, AllWide, AllRegistersFit, AllCellsWide, driving}
+use Rattle.cycle_sim.proofs.Common.{Place, Wires, IsWired, AllWired, place_of, IsAt, ArePortsPlaced, Gate, IsGate, AllGates}
 use Rattle.netlist_core.specs.declared.port.Port as port
-use Rattle.netlist_core.specs.declared.port.Register.{Register}
-use Rattle.netlist_core.specs.declared.raw.RawNetlist.{RawNetlist}
-use Rattle.netlist_core.specs.Runs.{bits_at, d_bits, input_ports, output_port}
-use Rattle.netlist_core.specs.Drivers.{times, times_at, cell_readers, readers}
-use Rattle.netlist_core.specs.Checked.{Plan, IsSound, AllWide, AllRegistersFit, AllCellsWide}
-use Rattle.netlist_core.specs.Solutions.{driving}
-use Rattle.cycle_sim.specs.declared.parts.Place.{Place}
-use Rattle.cycle_sim.specs.declared.parts.Wires.{Wires}
-use Rattle.cycle_sim.specs.Parts.{IsWired, AllWired}
-use Rattle.cycle_sim.specs.Places.{place_of, IsAt, ArePortsPlaced}
-use Rattle.cycle_sim.specs.declared.parts.Gate.{Gate}
-use Rattle.cycle_sim.specs.Gates.{IsGate, AllGates}
 use Rattle.cycle_sim.proofs.Wired.{AllNarrow, wired-push}
 use Rattle.cycle_sim.proofs.Placed.{times_at-at}
 use Rattle.cycle_sim.proofs.Plans.{read-driven, driven-below, narrow-wide, y-narrow}

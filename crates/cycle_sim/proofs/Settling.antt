@@ -1,15 +1,7 @@
 -- The cycle that a table has once its cells are computed.
-use Rattle.std.proofs.Common.{◌≡◌, ℕ, ◌+◌, ◌<◌, ◌≤◌, List, [], ◌∷◌, ◌++◌, length, take, drop, ◌∙◌, ap, subst, arith}
-use Rattle.std.proofs.lemmas.List.{length-map}
-use Rattle.netlist_core.specs.declared.bit.Bit.{Bit}
+use Rattle.cycle_sim.proofs.Common.{◌≡◌, ℕ, ◌+◌, ◌<◌, ◌≤◌, List, [], ◌∷◌, ◌++◌, length, take, drop, ◌∙◌, ap, subst, arith, length-map, Bit, Register, Nets, plain, bits_at, q_bits, Holds, y_bits}
+use Rattle.cycle_sim.proofs.Common.{drivers, Plan, IsSound, FitPorts, driving, OneRunBySight, nets_of, IsComputed, front}
 use Rattle.netlist_core.specs.declared.port.Port as port
-use Rattle.netlist_core.specs.declared.port.Register.{Register}
-use Rattle.netlist_core.specs.Runs.{Nets, plain, bits_at, q_bits, Holds}
-use Rattle.netlist_core.specs.Drivers.{y_bits, drivers}
-use Rattle.netlist_core.specs.Checked.{Plan, IsSound}
-use Rattle.netlist_core.specs.Solutions.{FitPorts, driving, OneRunBySight}
-use Rattle.cycle_sim.specs.Simulated.{nets_of}
-use Rattle.cycle_sim.specs.Marks.{IsComputed, front}
 use Rattle.cycle_sim.proofs.Plans.{driving-length, fit-length}
 use Rattle.cycle_sim.proofs.Fronts.{front-of}
 use Rattle.cycle_sim.proofs.Cycles.{cycle-alone}

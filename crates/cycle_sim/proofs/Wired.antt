@@ -1,20 +1,8 @@
 -- What wires read.
-use Rattle.std.proofs.Common.{◌≡◌, ℕ, zero, suc, ◌+◌, ◌*◌, ◌/◌, ◌%◌, ◌^◌, ◌<◌, ◌≤◌, Bool, true, false, List, [], ◌∷◌, ◌++◌, map, length, drop, get_or, refl, sym, ◌∙◌, ap, subst, inl, inr, arith}
-use Rattle.std.specs.List.{All}
-use Rattle.std.proofs.lemmas.Bool.{cases_lt}
-use Rattle.std.proofs.lemmas.List.{length-append, length-map, length-take, length-drop, get_or_past}
-use Rattle.netlist_core.specs.declared.bit.Bit.{Bit}
-use Rattle.netlist_core.specs.Numbers.{number, low_bits}
-use Rattle.netlist_core.specs.Runs.{Nets, values, plain, ports_seen, port_numbers}
-use Rattle.netlist_core.proofs.Settles.{length-values, number-fits}
-use Rattle.netlist_core.specs.Checked.{AllWide}
-use Rattle.cycle_sim.specs.declared.parts.Source.{Source}
-use Rattle.cycle_sim.specs.declared.parts.Source.TheVariants.{Constant, Driver}
-use Rattle.cycle_sim.specs.declared.parts.Part.{Part}
-use Rattle.cycle_sim.specs.declared.parts.Reading.{Reading}
-use Rattle.cycle_sim.specs.declared.parts.Reading.TheVariants.{Number, Whole, Single, Several}
-use Rattle.cycle_sim.specs.declared.parts.Wires.{Wires}
-use Rattle.cycle_sim.specs.Parts.{source_bits, part_bits, all_bits, AllWhole, IsReading, IsWired, AllWired, parts_number, total, IsInside, AllInside, IsRead, IsReadable, AllReadable, wires_bits}
+use Rattle.cycle_sim.proofs.Common.{◌≡◌, ℕ, zero, suc, ◌+◌, ◌*◌, ◌/◌, ◌%◌, ◌^◌, ◌<◌, ◌≤◌, Bool, true, false, List, [], ◌∷◌, ◌++◌, map, length, drop, get_or, refl, sym, ◌∙◌, ap, subst, inl, inr, arith}
+use Rattle.cycle_sim.proofs.Common.{All, cases_lt, length-append, length-map, length-take, length-drop, get_or_past, Bit, number, low_bits, Nets, values, plain, ports_seen, port_numbers}
+use Rattle.cycle_sim.proofs.Common.{length-values, number-fits, AllWide, Source, Constant, Driver, Part, Reading, Number, Whole, Single, Several, Wires, source_bits, part_bits, all_bits, AllWhole}
+use Rattle.cycle_sim.proofs.Common.{IsReading, IsWired, AllWired, parts_number, total, IsInside, AllInside, IsRead, IsReadable, AllReadable, wires_bits}
 use Rattle.cycle_sim.proofs.PartNumbers.{parts-number, driver-number}
 
 -- the drivers have at most 128 bits each

@@ -9,6 +9,8 @@ use Rattle.cycle_sim.specs.declared.parts.Wires.{Wires}
 use Rattle.cycle_sim.specs.declared.parts.Gate.{Gate}
 use Rattle.cycle_sim.specs.Parts.{AllWired, AllReadable, wires_bits}
 
+-- For proofs alone.
+
 -- The gate has the cell's kind, the width of its Y, and the wires of its input ports.
 pub record IsGate (drivers : List (List Bit)) (gate : Gate) (cell : Cell) : Type 0 where
   pub kind : gate.kind ≡ cell.kind

@@ -9,6 +9,8 @@ use Rattle.cycle_sim.specs.declared.parts.Gate.{Gate}
 use Rattle.cycle_sim.specs.Gates.{AllGates}
 use Rattle.cycle_sim.specs.Marks.{AreReaders, IsCurrent}
 
+-- For proofs alone.
+
 -- Where each reader finds its bits, numbers that fit, and those that are to be computed are marked.
 pub record IsSimulated (plan : Plan) (cell_gates : List Gate) (next_wires output_wires : List Wires) (readers : List (List ℕ)) (table registers marks : List ℕ) : Type 0 where
   pub sound : IsSound plan

@@ -14,6 +14,8 @@ use Rattle.cycle_sim.specs.declared.parts.Place.{Place}
 use Rattle.cycle_sim.specs.Places.{place_of}
 use Rattle.cycle_sim.specs.Simulated.{nets_of}
 
+-- For proofs alone.
+
 -- Marks: words of 64 bits, a bit for each place, which is 1 where the place is marked.
 
 abbrev pub mark_at : List ℕ → ℕ → ℕ

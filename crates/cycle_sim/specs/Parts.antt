@@ -11,6 +11,8 @@ use Rattle.cycle_sim.specs.declared.parts.Reading.{Reading}
 use Rattle.cycle_sim.specs.declared.parts.Reading.TheVariants.{Number, Whole, Single, Several}
 use Rattle.cycle_sim.specs.declared.parts.Wires.{Wires}
 
+-- For proofs alone.
+
 -- so many bits from a source on
 abbrev pub source_bits : List (List Bit) → Source → ℕ → List Bit
 source_bits drivers (Constant b) w = replicate w (Fixed b)

@@ -5,6 +5,8 @@ use Rattle.netlist_core.specs.declared.bit.Bit.TheVariants.{Net}
 use Rattle.netlist_core.specs.Drivers.{times, times_at}
 use Rattle.cycle_sim.specs.declared.parts.Place.{Place}
 
+-- For proofs alone.
+
 -- the place of a net in a table
 abbrev pub place_of : List Place → ℕ → Place
 place_of places n = slice_index_or places n (record { driver = 0; bit = 0 })

@@ -3,6 +3,7 @@ use Rattle.std.specs.Prelude.{◌≡◌, ℕ, List, [], ◌∷◌, map, length}
 use Rattle.mcy_base.specs.declared.word.Word.{Word}
 use Rattle.netlist_core.specs.declared.bit.Bit.{Bit}
 use Rattle.netlist_core.specs.declared.raw.RawNetlist.{RawNetlist}
+pub use Rattle.netlist_core.specs.Numbers.{numbers_of}
 use Rattle.netlist_core.specs.Runs.{Nets}
 use Rattle.netlist_core.specs.Settled.{laid_all, all_zero}
 use Rattle.netlist_core.specs.Solutions.{driving}
@@ -27,10 +28,6 @@ abbrev pub HaveWidths : List (List Bit) → List Word → Type 0
 HaveWidths [] [] = Unit {0}
 HaveWidths (bits ∷ more) (word ∷ words) = (word.width ≡ length bits) × HaveWidths more words
 HaveWidths ports words = ⊥
-
--- the words' numbers
-abbrev pub numbers_of : List Word → List ℕ
-numbers_of words = map (λ w. w.bits) words
 
 -- the start values
 abbrev pub starts_of : RawNetlist → List ℕ

@@ -1,23 +1,11 @@
 //! Where each net is driven.
 ghost use Rattle.std.specs.Prelude.{◌≡◌, ◌≤◌, ◌<◌, ◌+◌, ◌^◌, [], IfOk, map, length, slice_index_or};
-ghost use Rattle.netlist_core.specs.Runs.{output_port};
 ghost use Rattle.netlist_core.specs.Solutions.{driving};
 ghost use Rattle.cycle_sim.specs.Places.{AreBelow, AreMarked, ArePortsPlaced};
 
 use crate::parts::Place;
-use netlist_core::{Bit, BitList, Netlist, RawNetlist};
+use netlist_core::{Bit, Netlist, RawNetlist, output_port};
 use std::alloc::{AllocError, Global};
-
-/// The bits of Y, the last port.
-pub(crate) fn output(ports: &[BitList]) -> &[Bit]
-    ensures { result.now ≡ output_port ports.now }
-{
-    match ports {
-        [] => &[],
-        [y] => y.as_slice(),
-        [_, rest @ ..] => output(rest),
-    }
-}
 
 /// The bits of a driver: inputs, registers' Q and cells' Y, counted in this order.
 pub(crate) fn driver_bits(raw: &RawNetlist, driver: usize) -> &[Bit]
@@ -35,7 +23,7 @@ pub(crate) fn driver_bits(raw: &RawNetlist, driver: usize) -> &[Bit]
     let cell = register - registers.len();
     let cells = raw.cells.as_slice();
     if cell < cells.len() {
-        return output(cells[cell].ports.as_slice());
+        return output_port(cells[cell].ports.as_slice());
     }
     &[]
 }

@@ -8,9 +8,8 @@ ghost use Rattle.cycle_sim.specs.Marks.{AreReaders, AreAdded};
 
 use crate::parts::Place;
 use crate::places::driver_count;
-use crate::wiring::inputs;
 use mcy_base::Items;
-use netlist_core::{Bit, BitList, Netlist};
+use netlist_core::{Bit, BitList, Netlist, input_ports};
 use std::alloc::{AllocError, Global};
 
 /// So many lists of nothing.
@@ -105,7 +104,12 @@ pub(crate) fn readers_of(
     let mut readers = no_lists(alloc, driver_count(netlist))?;
     for place in 0..order.len() {
         let cell = &cells[order[place] as usize];
-        add_ports(&mut readers, places, inputs(cell.ports.as_slice()), place)?;
+        add_ports(
+            &mut readers,
+            places,
+            input_ports(cell.ports.as_slice()),
+            place,
+        )?;
     }
     Ok(readers)
 }

@@ -11,10 +11,10 @@ ghost use Rattle.cycle_sim.specs.Gates.{AllGates};
 ghost use Rattle.cycle_sim.specs.Marks.{AreReaders};
 
 use crate::parts::{Gate, Part, Place, Reading, Source, Wires};
-use crate::places::{output, places_of, widths_of};
+use crate::places::{places_of, widths_of};
 use crate::readers::readers_of;
 use mcy_base::Items;
-use netlist_core::{Bit, BitList, Netlist};
+use netlist_core::{Bit, BitList, Netlist, input_ports, output_port};
 use std::alloc::{AllocError, Global};
 
 /// Whether a bit is the one after a part.
@@ -165,13 +165,6 @@ fn wires_at(
     Ok(Items::from_vec(wires))
 }
 
-/// The input ports: all ports of a cell but the last.
-pub(crate) fn inputs(ports: &[BitList]) -> &[BitList]
-    ensures { result.now ≡ input_ports ports.now }
-{
-    &ports[..ports.len().saturating_sub(1)]
-}
-
 /// The gate of each cell.
 fn gates(
     alloc: Global,
@@ -189,8 +182,8 @@ fn gates(
         gates.push(Gate {
             kind: cell.kind,
             is_signed: cell.is_signed,
-            width: output(cell.ports.as_slice()).len() as u8,
-            ports: wires_at(alloc, places, widths, inputs(cell.ports.as_slice()))?,
+            width: output_port(cell.ports.as_slice()).len() as u8,
+            ports: wires_at(alloc, places, widths, input_ports(cell.ports.as_slice()))?,
         })?;
     }
     Ok(gates)

@@ -12,9 +12,11 @@ use Rattle.vlog_meaning.specs.Operators.{IsSized}
 use Rattle.vlog_meaning.specs.Scopes.{Names, with_name, decl_shape}
 use Rattle.net_builder.specs.Building.{Building, AllBelow, IsSignal, HasSignals, fresh_bits, signal, with_declared}
 use Rattle.flat_runs.proofs.Growing.{declared_stand}
-use Rattle.flat_runs.proofs.Signals.{below_more, declared_own, fresh_below}
+use Rattle.flat_runs.proofs.Signals.{declared_own}
 use Rattle.elab_proc.specs.Refusals.{AreSized}
 use Rattle.flat_assigns.specs.Built.{IsReady}
+use Rattle.net_builder.proofs.Parts.{length_fresh, below_later, fresh_below}
+use Rattle.elab_expr.proofs.Growing.{signal_kept}
 
 -- A signal that is declared.
 
@@ -33,10 +35,6 @@ index_last : (xs : List (List Bit)) (y : List Bit) → slice_index_or (xs ++ y �
 index_last [] y = refl
 index_last (x ∷ xs) y = index_last xs y
 
-fresh_long : (from width : ℕ) → length (fresh_bits from width) ≡ width
-fresh_long from zero = refl
-fresh_long from (suc width) = let e = fresh_long (from + 1) width in omega (arith, e)
-
 stays_signal : (b : Building) (name : List ℕ) (span : Span) (width : ℕ) (d : Option Decl) → IsSignal b d → IsSignal (with_declared b name span width) d
 stays_signal b name span width None h = tt
 stays_signal b name span width (Some (Constant value low is_signed)) h = tt
@@ -45,14 +43,14 @@ stays_signal b name span width (Some (Signal w low is_signed k)) h =
     let same = index_left b.signals (y ∷ []) k h.0 in
     let long = length-append b.signals (y ∷ []) in
     let le : b.nets ≤ b.nets + width = omega arith in
-    (omega (arith, long, h.0), ap length same ∙ h.1, subst (AllBelow (b.nets + width)) (sym same) (below_more b.nets (b.nets + width) (signal b k) le h.2))
+    (omega (arith, long, h.0), ap length same ∙ h.1, subst (AllBelow (b.nets + width)) (sym same) (below_later b.nets (b.nets + width) (signal b k) le h.2))
 
 new_signal : (b : Building) (name : List ℕ) (span : Span) (width low : ℕ) (is_signed : Bool) (k : ℕ) → k ≡ length b.signals → IsSignal (with_declared b name span width) (Some (Signal width low is_signed k))
 new_signal b name span width low is_signed k is =
     let y : List Bit = fresh_bits b.nets width in
     let same : slice_index_or (b.signals ++ y ∷ []) k [] ≡ y = ap (λ (j : ℕ). slice_index_or (b.signals ++ y ∷ []) j []) is ∙ index_last b.signals y in
     let long = length-append b.signals (y ∷ []) in
-    (omega (arith, long, is), ap length same ∙ fresh_long b.nets width, subst (AllBelow (b.nets + width)) (sym same) (fresh_below b.nets width))
+    (omega (arith, long, is), ap length same ∙ length_fresh b.nets width, subst (AllBelow (b.nets + width)) (sym same) (fresh_below b.nets width))
 
 declared_signals : (names after : Names) (b : Building) (name : List ℕ) (span : Span) (width low : ℕ) (is_signed : Bool) (k : ℕ) → k ≡ length b.signals → after ≡ with_name names name (Some (Signal width low is_signed k)) → HasSignals names b → HasSignals after (with_declared b name span width)
 declared_signals names after b name span width low is_signed k is e h = subst (λ (n : Names). HasSignals n (with_declared b name span width)) (sym e) (λ other. go other (bytes_eq name other)) where
@@ -70,15 +68,8 @@ constant_signals names after b name value low is_signed e h = subst (λ (n : Nam
 
 -- What was built.
 
-same_signal : (old new : Building) (d : Option Decl) → new.signals ≡ old.signals → old.nets ≤ new.nets → IsSignal old d → IsSignal new d
-same_signal old new None same le h = tt
-same_signal old new (Some (Constant value low is_signed)) same le h = tt
-same_signal old new (Some (Signal w low is_signed k)) same le h =
-    let P : List (List Bit) → Type 0 = λ l. (k < length l) × (length (slice_index_or l k []) ≡ w) × AllBelow new.nets (slice_index_or l k []) in
-    subst P (sym same) (h.0, h.1, below_more old.nets new.nets (signal old k) le h.2)
-
 built_signals : (names : Names) (old new : Building) → new.signals ≡ old.signals → old.nets ≤ new.nets → HasSignals names old → HasSignals names new
-built_signals names old new same le h = λ name. same_signal old new (names name) same le (h name)
+built_signals names old new same le h = λ name. signal_kept old new (names name) same le (h name)
 
 -- Names with 1 to 128 bits.
 

@@ -1,37 +1,15 @@
 -- What one operator adds, in plain variables.
-use Rattle.std.proofs.Common.{◌≡◌, ℕ, zero, suc, ◌<◌, ◌≤◌, ◌^◌, ◌&&◌, ◌==◌, ◌-ℤ◌, ℤ, pos, Bool, true, false, not, nat_lt, List, [], ◌∷◌, ◌++◌, length, refl, sym, ◌∙◌, ap, subst, arith}
-use Rattle.std.specs.Prelude.{Option, None, Some, IsSome, if◌then◌else◌}
-use Rattle.std.proofs.lemmas.Bool.Decides.{nat_tests}
-use Rattle.mcy_base.specs.declared.span.Span.{Span}
-use Rattle.netlist_core.specs.declared.bit.Bit.{Bit}
-use Rattle.netlist_core.specs.declared.cell.CellKind.{CellKind}
-use Rattle.netlist_core.specs.declared.cell.CellKind.TheVariants.{Mux, Pick, Ror}
-use Rattle.netlist_core.specs.Numbers.{number}
-use Rattle.netlist_core.specs.Runs.{Nets, values}
-use Rattle.netlist_core.specs.Shapes.{widths, shape_of, HasWidths}
-use Rattle.netlist_core.specs.Checked.{AllWide}
-use Rattle.vlog_syntax.specs.declared.operator.UnaryOperator.{UnaryOperator}
+use Rattle.elab_expr.proofs.Common.{◌≡◌, ℕ, zero, suc, ◌<◌, ◌≤◌, ◌^◌, ◌&&◌, ◌==◌, ◌-ℤ◌, ℤ, pos, Bool, true, false, not, nat_lt, List, [], ◌∷◌, ◌++◌, length, refl, sym, ◌∙◌, ap, subst, arith, Option}
+use Rattle.elab_expr.proofs.Common.{None, Some, if◌then◌else◌, nat_tests, Span, Bit, CellKind, Mux, Pick, Ror, number, Nets, values, widths, shape_of, HasWidths, AllWide, UnaryOperator}
+use Rattle.elab_expr.proofs.Common.{BinaryOperator, Decl, Sizing, Shape, extended, window, IsSized, ArePaired, digit, sizing, result_width, is_reduction, unary_value, binary_value, decl_low}
+use Rattle.elab_expr.proofs.Common.{decl_shape, decl_value, taken, extended_positive, Building, RunsIn, AllBelow, PortsBelow, fresh_bits, with_cell, store, Adds, Holds, unary_kind, binary_kind}
+use Rattle.elab_expr.proofs.Common.{is_order, Made, cell_of, ShapeOfBits, grows_not, length_fresh}
 use Rattle.vlog_syntax.specs.declared.operator.UnaryOperator.TheVariants as u
-use Rattle.vlog_syntax.specs.declared.operator.BinaryOperator.{BinaryOperator}
 use Rattle.vlog_syntax.specs.declared.operator.BinaryOperator.TheVariants as b
-use Rattle.vlog_meaning.specs.declared.scope.Decl.{Decl}
-use Rattle.vlog_meaning.specs.declared.operator.Sizing.{Sizing}
 use Rattle.vlog_meaning.specs.declared.operator.Sizing.TheVariants.{Common, Left, Compared, Apart}
-use Rattle.vlog_meaning.specs.declared.shapes.Shape.{Shape}
-use Rattle.vlog_meaning.specs.Integers.{extended, window}
-use Rattle.vlog_meaning.specs.Operators.{IsSized, ArePaired, digit, sizing, result_width, is_reduction, unary_value, binary_value}
-use Rattle.vlog_meaning.specs.Scopes.{decl_low, decl_shape, decl_value}
-use Rattle.vlog_meaning.specs.Senses.{is_division, taken}
-use Rattle.vlog_meaning.proofs.Signs.{extended_positive}
-use Rattle.net_builder.specs.Building.{Building, RunsIn, AllBelow, PortsBelow, fresh_bits, with_cell, store}
-use Rattle.elab_expr.specs.Evaluates.{Adds, Holds}
-use Rattle.expr_plans.specs.Kinds.{unary_kind, binary_kind, is_order}
-use Rattle.expr_plans.specs.Made.{Made, cell_of}
-use Rattle.elab_expr.specs.Wiring.{ShapeOfBits}
 use Rattle.elab_expr.proofs.Bits.{number-fits}
 use Rattle.elab_expr.proofs.Growing.{adds_cell, widened, none_made}
 use Rattle.elab_expr.proofs.NodeLemmas.{unary_widths, binary_widths}
-use Rattle.net_builder.proofs.Parts.{grows_not, length_fresh}
 
 -- what the extension of bits with zeros is
 abbrev pub IsExtended : List Bit → List Bit → ℕ → Type 0
@@ -80,33 +58,6 @@ some_result Common s h = h
 some_result Left s h = h
 some_result Compared s h = omega arith
 some_result Apart s h = omega arith
-
--- an operator that is supported makes a cell
-pub makes_cell : (op : BinaryOperator) (signed : Bool) → is_division op ≡ false → IsSome (binary_kind op signed)
-makes_cell b.Power signed e = cc
-makes_cell b.Divide signed e = cc
-makes_cell b.Modulus signed e = cc
-makes_cell b.Multiply signed e = refl
-makes_cell b.Add signed e = refl
-makes_cell b.Subtract signed e = refl
-makes_cell b.LogicalShiftLeft signed e = refl
-makes_cell b.LogicalShiftRight signed e = refl
-makes_cell b.ArithmeticShiftLeft signed e = refl
-makes_cell b.ArithmeticShiftRight signed e = refl
-makes_cell b.Less signed e = refl
-makes_cell b.LessEqual signed e = refl
-makes_cell b.Greater signed e = refl
-makes_cell b.GreaterEqual signed e = refl
-makes_cell b.LogicalEquality signed e = refl
-makes_cell b.LogicalInequality signed e = refl
-makes_cell b.CaseEquality signed e = refl
-makes_cell b.CaseInequality signed e = refl
-makes_cell b.BitwiseAnd signed e = refl
-makes_cell b.BitwiseXor signed e = refl
-makes_cell b.BitwiseXnor signed e = refl
-makes_cell b.BitwiseOr signed e = refl
-makes_cell b.LogicalAnd signed e = refl
-makes_cell b.LogicalOr signed e = refl
 
 two_widths : (a b : List Bit) (s t : ℕ) → length a ≡ s → length b ≡ t → widths (a ∷ b ∷ []) ≡ s ∷ t ∷ []
 two_widths a b s t la lb = ap (λ (m : ℕ). m ∷ length b ∷ []) la ∙ ap (λ (m : ℕ). s ∷ m ∷ []) lb

@@ -1,43 +1,17 @@
 -- The cells of each production after those of its operands, in plain variables.
-use Rattle.std.proofs.Common.{◌≡◌, ℕ, zero, suc, ◌+◌, ◌-◌, ◌*◌, ◌<◌, ◌≤◌, ◌^◌, ◌&&◌, ◌||◌, ◌==◌, ◌-ℤ◌, ℤ, pos, Bool, true, false, not, nat_lt, nat_le, List, [], ◌∷◌, ◌++◌, length, take, get_or, map, refl, sym, ◌∙◌, ap, subst, arith, append_assoc}
-use Rattle.std.specs.Prelude.{Option, None, Some, if◌then◌else◌}
-use Rattle.std.proofs.lemmas.Bool.Decides.{nat_tests}
-use Rattle.std.proofs.lemmas.Int.{ints}
-use Rattle.std.proofs.lemmas.List.{length-append, map-append}
-use Rattle.std.proofs.lemmas.Nat.{pow-add, pow_pos}
-use Rattle.mcy_base.specs.declared.span.Span.{Span}
-use Rattle.netlist_core.specs.declared.bit.Bit.{Bit}
-use Rattle.netlist_core.specs.declared.cell.CellKind.TheVariants.{Mux, Pick, Ror}
-use Rattle.netlist_core.specs.Numbers.{number}
-use Rattle.netlist_core.specs.Runs.{Nets, values}
-use Rattle.vlog_syntax.specs.declared.expr.Expr.{Expr}
-use Rattle.vlog_syntax.specs.declared.operator.UnaryOperator.{UnaryOperator}
-use Rattle.vlog_syntax.specs.declared.operator.BinaryOperator.{BinaryOperator}
-use Rattle.vlog_syntax.specs.Places.{first_token}
-use Rattle.vlog_meaning.specs.declared.fault.Cause.TheVariants.{IndexedBase}
-use Rattle.vlog_meaning.specs.declared.shapes.Shape.{Shape}
-use Rattle.vlog_meaning.specs.declared.scope.Decl.{Decl}
-use Rattle.vlog_meaning.specs.declared.scope.Decl.TheVariants.{Signal, Constant}
-use Rattle.vlog_meaning.specs.Integers.{integer, window, extended}
-use Rattle.vlog_meaning.specs.Operators.{IsSized, sizing, left_context, right_context, result_width, operand_context, is_reduction, unary_value, binary_value, digit}
-use Rattle.vlog_meaning.specs.Scopes.{Names, Store, decl_shape, decl_low, decl_value}
-use Rattle.vlog_meaning.specs.Senses.{Sense, sense, senses, own, index_of, is_empty, fault, index_features, binary_step, total_width, joined, repeated}
+use Rattle.elab_expr.proofs.Common.{◌≡◌, ℕ, zero, suc, ◌+◌, ◌-◌, ◌*◌, ◌<◌, ◌≤◌, ◌^◌, ◌&&◌, ◌||◌, ◌==◌, ◌-ℤ◌, ℤ, pos, Bool, true, false, not, nat_lt, nat_le, List, [], ◌∷◌, ◌++◌, length, take, get_or}
+use Rattle.elab_expr.proofs.Common.{map, refl, sym, ◌∙◌, ap, subst, arith, append_assoc, Option, None, Some, if◌then◌else◌, nat_tests, ints, length-append, map-append, pow-add, pow_pos, Span, Bit}
+use Rattle.elab_expr.proofs.Common.{Mux, Pick, Ror, number, Nets, values, Expr, UnaryOperator, BinaryOperator, first_token, IndexedBase, Shape, Decl, Signal, Constant, integer, window, extended}
+use Rattle.elab_expr.proofs.Common.{IsSized, sizing, left_context, right_context, result_width, operand_context, is_reduction, unary_value, binary_value, digit, Names, Store, decl_shape, decl_low}
+use Rattle.elab_expr.proofs.Common.{decl_value, Sense, sense, senses, own, index_of, is_empty, fault, index_features, binary_step, total_width, joined, repeated, extended_positive, ElabError}
+use Rattle.elab_expr.proofs.Common.{Building, AllBelow, IsSignal, RunsIn, signal, store, Adds, Builds, Evaluates, unary_kind, binary_kind, Made, made_of, plan, plans, made, own_cells, all_cells}
+use Rattle.elab_expr.proofs.Common.{cell_of, index_width, pick_cells, condition_cells, unary_cells, binary_cells, choice_cells, IsShort, ShapeOfBits, grows_not, grows_again, grown_nets, runs_before}
+use Rattle.elab_expr.proofs.Common.{store_same, below_append, below_later, index_window, plan_sense, plan_first}
 use Rattle.vlog_meaning.proofs.Powers.{power_le}
 use Rattle.vlog_meaning.proofs.Results.{total_take}
-use Rattle.vlog_meaning.proofs.Signs.{extended_positive}
-use Rattle.net_builder.specs.declared.error.ElabError.{ElabError}
-use Rattle.net_builder.specs.Building.{Building, AllBelow, IsSignal, RunsIn, signal, store}
-use Rattle.elab_expr.specs.Evaluates.{Adds, Builds, Evaluates}
-use Rattle.expr_plans.specs.Kinds.{unary_kind, binary_kind}
-use Rattle.expr_plans.specs.Made.{Made, made_of, plan, plans, made, own_cells, all_cells, cell_of, index_width, pick_cells, condition_cells, unary_cells, binary_cells, choice_cells}
-use Rattle.net_builder.specs.Refusals.{IsShort}
-use Rattle.elab_expr.specs.Wiring.{ShapeOfBits}
 use Rattle.elab_expr.proofs.Bits.{number-fits}
 use Rattle.elab_expr.proofs.Growing.{then_adds, none_made, count, more_short, stretched}
-use Rattle.net_builder.proofs.Parts.{grows_not, grows_again, grown_nets, runs_before, store_same, below_append, below_later}
 use Rattle.elab_expr.proofs.Selects.{number_append}
-use Rattle.expr_plans.proofs.Indices.{index_window}
-use Rattle.expr_plans.proofs.Plans.{plan_sense, plan_first}
 
 -- other cells that are the same
 pub same_cells : (o n : Building) (y : List Bit) (w : ℕ) (f : Nets → ℕ) (M N : List Made) → N ≡ M → Adds o n y w f M → Adds o n y w f N

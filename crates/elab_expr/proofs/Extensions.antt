@@ -1,18 +1,10 @@
 -- Bits filled up to a width.
-use Rattle.std.proofs.Common.{◌≡◌, ℕ, zero, suc, ◌+◌, ◌-◌, ◌*◌, ◌≤◌, ◌^◌, Bool, true, false, List, [], ◌∷◌, ◌++◌, length, replicate, nat_le, get_or, refl, sym, ap, ◌∙◌, arith, append_assoc}
-use Rattle.std.proofs.Math.Nat.{pow-suc}
-use Rattle.std.proofs.Math.Pow.{pow_mono}
-use Rattle.netlist_core.specs.declared.bit.Bit.{Bit}
-use Rattle.netlist_core.specs.declared.bit.Bit.TheVariants.{Fixed}
-use Rattle.netlist_core.specs.Numbers.{digit, number}
-use Rattle.netlist_core.specs.Cells.{top_bit}
-use Rattle.netlist_core.specs.Runs.{Nets, bit_value, values}
-use Rattle.vlog_meaning.specs.Integers.{is_negative, extended}
-use Rattle.vlog_meaning.proofs.Signs.{extended_negative, extended_positive}
-use Rattle.elab_expr.specs.Wiring.{ShapeOfBits, last_bit, fill_bit}
+use Rattle.elab_expr.proofs.Common.{◌≡◌, ℕ, zero, suc, ◌+◌, ◌-◌, ◌*◌, ◌≤◌, ◌^◌, Bool, true, false, List, [], ◌∷◌, ◌++◌, length, replicate, nat_le, get_or, refl, sym, ap, ◌∙◌, arith, append_assoc}
+use Rattle.elab_expr.proofs.Common.{pow-suc, pow_mono, Bit, Fixed, number, top_bit, Nets, bit_value, values, is_negative, extended, extended_negative, extended_positive, ShapeOfBits, last_bit}
+use Rattle.elab_expr.proofs.Common.{fill_bit, length-values}
+use Rattle.netlist_core.specs.Numbers.{digit}
 use Rattle.elab_expr.proofs.Bits.{number-fits}
 use Rattle.elab_expr.proofs.KindLemmas.{top_tells}
-use Rattle.elab_expr.proofs.NodeLemmas.{length_values}
 
 pub filled_0 : (nets : Nets) (bits : List Bit) (f : Bit) (k : ℕ) → bit_value nets f ≡ false → number (values nets (bits ++ replicate k f)) ≡ number (values nets bits)
 filled_0 nets [] f zero e = refl
@@ -47,7 +39,7 @@ top_last nets (x ∷ y ∷ more) some =
 
 negative_is : (nets : Nets) (bits : List Bit) (b : Bool) → 1 ≤ length bits → bit_value nets (last_bit bits) ≡ b → is_negative (ShapeOfBits bits true) (number (values nets bits)) ≡ b
 negative_is nets bits b some e =
-    let long : length (values nets bits) ≡ length bits = length_values nets bits in
+    let long : length (values nets bits) ≡ length bits = length-values nets bits in
     let t : top_bit (values nets bits) ≡ nat_le (2 ^ (length (values nets bits) - 1)) (number (values nets bits)) = top_tells (values nets bits) (omega (arith, long)) in
     sym (ap (λ (m : ℕ). nat_le (2 ^ (m - 1)) (number (values nets bits))) long) ∙ sym t ∙ top_last nets bits some ∙ e
 

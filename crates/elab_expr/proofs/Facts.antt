@@ -1,40 +1,22 @@
 -- What the parts of an expression have where the whole has a shape, a context and nothing that is not supported; and
 -- what the whole makes, from what its parts make.
-use Rattle.std.proofs.Common.{◌≡◌, ℕ, ◌+◌, ◌*◌, ◌<◌, ◌≤◌, ◌^◌, ◌&&◌, ◌==◌, ◌-ℤ◌, ℤ, pos, Bool, true, false, not, List, [], ◌∷◌, ◌++◌, refl, sym, ◌∙◌, ap, subst, arith, true≢false}
-use Rattle.std.specs.Prelude.{Option, None, Some, if◌then◌else◌}
-use Rattle.mcy_base.specs.declared.span.Span.{Span}
-use Rattle.netlist_core.specs.declared.bit.Bit.{Bit}
-use Rattle.netlist_core.specs.Runs.{Nets}
-use Rattle.vlog_syntax.specs.declared.expr.Expr.{Expr}
+use Rattle.elab_expr.proofs.Common.{◌≡◌, ℕ, ◌+◌, ◌*◌, ◌<◌, ◌≤◌, ◌^◌, ◌&&◌, ◌==◌, ◌-ℤ◌, ℤ, pos, Bool, true, false, not, List, [], ◌∷◌, ◌++◌, refl, sym, ◌∙◌, ap, subst, arith, true≢false, Option, None}
+use Rattle.elab_expr.proofs.Common.{Some, if◌then◌else◌, Span, Bit, Nets, Expr, Expr-F, Number, Identifier, UnaryOperator, BinaryOperator, DivideOrPower, Fault, Shape, function_of, natural, window}
+use Rattle.elab_expr.proofs.Common.{extended, IsSized, sizing, pair_shape, unary_shape, unary_value, operand_context, Names, decl_shape, decl_low, decl_value, Sense, sense, senses, step, own}
+use Rattle.elab_expr.proofs.Common.{index_of, fault, is_empty, constant_integer, part_width, total_width, joined, repeated, taken, all_signals, call_faults, call_shape, call_signals, call_value}
+use Rattle.elab_expr.proofs.Common.{index_features, binary_features, is_division, binary_step, IsWhole, IsContext, left_nil, right_nil, joint_left, joint_right, Building, RunsIn, store, Builds}
+use Rattle.elab_expr.proofs.Common.{Evaluates, TakesBits, takes_sign, Plan, Made, plan, plans, plan_step, unsupported_step, made, base_features, all_unsupported, all_cells, call_unsupported}
+use Rattle.elab_expr.proofs.Common.{pick_cells, unary_cells, binary_cells, choice_cells, base_indexed, base_unsigned, plan_sense}
 use Rattle.vlog_syntax.specs.declared.expr.Expr.TheOpen as e
-use Rattle.vlog_syntax.specs.declared.expr.Expr.TheOpen.{Expr-F}
 use Rattle.vlog_syntax.specs.declared.expr.Expr.TheVariants as v
-use Rattle.vlog_syntax.specs.declared.identifier.Number.{Number}
-use Rattle.vlog_syntax.specs.declared.identifier.Identifier.{Identifier}
-use Rattle.vlog_syntax.specs.declared.operator.UnaryOperator.{UnaryOperator}
-use Rattle.vlog_syntax.specs.declared.operator.BinaryOperator.{BinaryOperator}
-use Rattle.vlog_meaning.specs.declared.fault.Cause.TheVariants.{DivideOrPower}
-use Rattle.vlog_meaning.specs.declared.fault.Fault.{Fault}
 use Rattle.vlog_meaning.specs.declared.function.Function.{Function}
 use Rattle.vlog_meaning.specs.declared.function.Function.TheVariants.{Signed, Unsigned, Clog2, Random, Time}
-use Rattle.vlog_meaning.specs.declared.shapes.Shape.{Shape}
-use Rattle.vlog_meaning.specs.Functions.{function_of}
-use Rattle.vlog_meaning.specs.Integers.{natural, window, extended}
-use Rattle.vlog_meaning.specs.Operators.{IsSized, sizing, pair_shape, unary_shape, unary_value, operand_context}
-use Rattle.vlog_meaning.specs.Scopes.{Names, decl_shape, decl_low, decl_value}
-use Rattle.vlog_meaning.specs.Senses.{Sense, sense, senses, step, own, index_of, fault, is_empty, constant_integer, constant_faults, part_width, total_width, joined, repeated, taken, all_signals, call_faults, call_shape, call_signals, call_value, index_features, binary_features, is_division, binary_step, IsWhole, IsContext}
-use Rattle.vlog_meaning.proofs.Blanks.{left_nil, right_nil, these_nil}
-use Rattle.vlog_meaning.proofs.Contexts.{joint_left, joint_right}
 use Rattle.vlog_meaning.proofs.Steps as steps
 use Rattle.vlog_meaning.proofs.Whole as whole
-use Rattle.net_builder.specs.Building.{Building, RunsIn, store}
-use Rattle.elab_expr.specs.Evaluates.{Builds, Evaluates, TakesBits, takes_sign}
-use Rattle.expr_plans.specs.Made.{Plan, Made, plan, plans, plan_step, unsupported_step, made, base_features, all_unsupported, all_cells, call_unsupported, pick_cells, unary_cells, binary_cells, choice_cells}
 use Rattle.elab_expr.proofs.Growing.{made_as, evaluates_as}
-use Rattle.expr_plans.proofs.Indices.{base_indexed, base_unsigned}
 use Rattle.expr_plans.proofs.Plans as planned
-use Rattle.expr_plans.proofs.Plans.{plan_sense}
 use Rattle.elab_expr.proofs.Arms.{unextended}
+use Rattle.vlog_meaning.proofs.Same.{no_signals}
 
 -- Each production.
 
@@ -282,9 +264,6 @@ module _ (names : Names) (x : Expr) (c : Shape) where
         evaluates_as names x c o m bits _ _ is_times (times_made varies)
         (subst (λ (i : ℕ). Builds o m bits c.width (λ signals. repeated i (total_width (senses names ps)) (joined signals (senses names ps))) (all_cells (plans names ps))) is_n b)
 
-constant_quiet : (a : Sense) → constant_faults a ≡ [] → a.signals ≡ []
-constant_quiet a e = left_nil _ _ (these_nil _ _ e)
-
 -- which calls have no fault, are supported and no constant
 takes_one : (f : Option Function) (span : Span) (args : List Sense) (ps : List Plan) → call_faults f span args ≡ [] → call_unsupported f span ps ≡ [] → is_empty (call_signals f span ++ all_signals args) ≡ false → TakesBits f args
 takes_one (Some Signed) span [] ps fine none varies = cc
@@ -295,7 +274,7 @@ takes_one (Some Unsigned) span (a ∷ []) ps fine none varies = tt
 takes_one (Some Unsigned) span (a ∷ b ∷ more) ps fine none varies = cc
 takes_one (Some Clog2) span [] ps fine none varies = cc
 takes_one (Some Clog2) span (a ∷ []) ps fine none varies =
-    let quiet : is_empty (a.signals ++ []) ≡ true = ap (λ (l : List Fault). is_empty (l ++ [])) (constant_quiet a fine) in
+    let quiet : is_empty (a.signals ++ []) ≡ true = ap (λ (l : List Fault). is_empty (l ++ [])) (no_signals a fine) in
     let no : true ≡ false = sym quiet ∙ varies in cc
 takes_one (Some Clog2) span (a ∷ b ∷ more) ps fine none varies = cc
 takes_one (Some Random) span args ps fine none varies = cc

@@ -1,35 +1,14 @@
 -- Builders that grow by the cells of an expression: one node after the other.
-use Rattle.std.proofs.Common.{◌≡◌, ℕ, ◌+◌, ◌<◌, ◌≤◌, Bool, true, false, List, [], ◌∷◌, ◌++◌, length, map, refl, sym, ◌∙◌, ap, subst, arith}
-use Rattle.std.specs.Prelude.{Option, None, Some, slice_index_or, if◌then◌else◌}
-use Rattle.std.proofs.lemmas.List.{length-append, length-map, map-append}
+use Rattle.elab_expr.proofs.Common.{◌≡◌, ℕ, ◌+◌, ◌<◌, ◌≤◌, Bool, true, false, List, [], ◌∷◌, ◌++◌, length, map, refl, sym, ◌∙◌, ap, subst, arith, Option, None, Some, slice_index_or, if◌then◌else◌}
+use Rattle.elab_expr.proofs.Common.{length-append, length-map, map-append, Span, Bit, CellKind, number, Nets, values, widths, shape_of, HasWidths, AllWide, Expr, out-Expr, Expr-F, Decl, Signal}
+use Rattle.elab_expr.proofs.Common.{Constant, Shape, extended, Names, Store, Sense, sense, is_empty, extended_positive, ElabError, Building, RunsIn, Grows, AllBelow, PortsBelow, HasSignals, IsSignal}
+use Rattle.elab_expr.proofs.Common.{fresh_bits, signal, with_cell, store, Adds, Builds, Evaluates, Holds, Made, Plan, made_of, made, plan, plan_step, cells_step, IsShort, ShapeOfBits, below_later}
+use Rattle.elab_expr.proofs.Common.{grows_not, grows_not_more, grows_again, grows_cell, grows_cell_more, grown_nets, grown_cells, store_same, runs_before, fresh_below, length_fresh, widths_push}
+use Rattle.elab_expr.proofs.Common.{plan_sense}
 use Rattle.mcy_base.specs.declared.kind.Kind.TheVariants as kind
-use Rattle.mcy_base.specs.declared.span.Span.{Span}
-use Rattle.netlist_core.specs.declared.bit.Bit.{Bit}
-use Rattle.netlist_core.specs.declared.cell.CellKind.{CellKind}
-use Rattle.netlist_core.specs.Numbers.{number}
-use Rattle.netlist_core.specs.Runs.{Nets, values}
-use Rattle.netlist_core.specs.Shapes.{widths, shape_of, HasWidths}
-use Rattle.netlist_core.specs.Checked.{AllWide}
-use Rattle.vlog_syntax.specs.declared.expr.Expr.{Expr, out-Expr}
-use Rattle.vlog_syntax.specs.declared.expr.Expr.TheOpen.{Expr-F}
 use Rattle.vlog_syntax.specs.declared.expr.Expr.TheFolds.{fold_out-Expr, map-Expr}
-use Rattle.vlog_meaning.specs.declared.scope.Decl.{Decl}
-use Rattle.vlog_meaning.specs.declared.scope.Decl.TheVariants.{Signal, Constant}
-use Rattle.vlog_meaning.specs.declared.shapes.Shape.{Shape}
-use Rattle.vlog_meaning.specs.Integers.{extended}
-use Rattle.vlog_meaning.specs.Scopes.{Names, Store}
-use Rattle.vlog_meaning.specs.Senses.{Sense, sense, is_empty}
-use Rattle.vlog_meaning.proofs.Signs.{extended_positive}
-use Rattle.net_builder.specs.declared.error.ElabError.{ElabError}
 use Rattle.net_builder.specs.declared.error.ElabError.TheVariants as error
-use Rattle.net_builder.specs.Building.{Building, RunsIn, Grows, AllBelow, PortsBelow, HasSignals, IsSignal, fresh_bits, signal, with_cell, store}
-use Rattle.elab_expr.specs.Evaluates.{Adds, Builds, Evaluates, Holds}
-use Rattle.expr_plans.specs.Made.{Made, Plan, made_of, made, plan, plan_step, cells_step}
-use Rattle.net_builder.specs.Refusals.{IsShort}
-use Rattle.elab_expr.specs.Wiring.{ShapeOfBits}
 use Rattle.elab_expr.proofs.Bits.{number-fits}
-use Rattle.net_builder.proofs.Parts.{below_later, grows_not, grows_not_more, grows_again, grows_cell, grows_cell_more, grown_nets, grown_cells, store_same, runs_before, fresh_below, length_fresh, widths_push}
-use Rattle.expr_plans.proofs.Plans.{plan_sense}
 
 -- How many cells.
 
@@ -121,7 +100,7 @@ adds_cell o n kind signed ports w span y v ws is_ws shape wide some narrow below
 
 -- Signals stand where cells are added.
 
-signal_kept : (a b : Building) (decl : Option Decl) → b.signals ≡ a.signals → a.nets ≤ b.nets → IsSignal a decl → IsSignal b decl
+pub signal_kept : (a b : Building) (decl : Option Decl) → b.signals ≡ a.signals → a.nets ≤ b.nets → IsSignal a decl → IsSignal b decl
 signal_kept a b (Some (Signal width low signed number)) same le h =
     let bits : signal b number ≡ signal a number = ap (λ (l : List (List Bit)). slice_index_or l number []) same in
     (subst (λ (l : List (List Bit)). number < length l) (sym same) h.0, ap length bits ∙ h.1, below_later a.nets b.nets (signal b number) le (subst (AllBelow a.nets) (sym bits) h.2))

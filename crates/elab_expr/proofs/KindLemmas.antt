@@ -1,27 +1,12 @@
 -- The cell of an operator has the operator's value.
-use Rattle.std.proofs.Common.{◌≡◌, ℕ, zero, suc, ◌+◌, ◌-◌, ◌*◌, ◌/◌, ◌%◌, ◌<◌, ◌≤◌, ◌^◌, Bool, true, false, not, ◌&&◌, ◌||◌, ◌==◌, ℤ, pos, negsuc, ◌-ℤ◌, List, [], ◌∷◌, ◌++◌, length, drop, replicate, map, refl, sym, ap, ◌∙◌, arith, inl, inr, subst, nat_eq, nat_le}
-use Rattle.std.specs.Prelude.{bit_xor, int_lt, if◌then◌else◌}
+use Rattle.elab_expr.proofs.Common.{◌≡◌, ℕ, zero, suc, ◌+◌, ◌-◌, ◌*◌, ◌/◌, ◌%◌, ◌<◌, ◌≤◌, ◌^◌, Bool, true, false, not, ◌&&◌, ◌||◌, ◌==◌, ℤ, pos, negsuc, ◌-ℤ◌, List, [], ◌∷◌, ◌++◌, length, drop}
+use Rattle.elab_expr.proofs.Common.{replicate, map, refl, sym, ap, ◌∙◌, arith, inl, inr, subst, nat_eq, nat_le, bit_xor, int_lt, if◌then◌else◌, xor_lt, or_lt, ints, nat_tests, leb_tells, mod-eq_of_lt}
+use Rattle.elab_expr.proofs.Common.{pow-suc, add-mod_left, div-le_self, zero-div, div-one, shr-shr, CellKind, And, Or, Xor, Xnor, Add, Sub, Mul, Lt, Le, Gt, Ge, Eq, Ne, Shl, Shr, Sshr, Land, Lor}
+use Rattle.elab_expr.proofs.Common.{number, cell_value, is_less, signed_number, some_one, top_bit, shifted_down, Shape, integer, low_bits, halved, digit, binary_value, Some, map-append, length-append}
+use Rattle.elab_expr.proofs.Common.{length-drop, length-replicate, pow_mono, BinaryOperator, sizing, ArePaired, result_width, binary_kind, is_order, number-fits}
 use Rattle.std.specs.Int.Bits.{and_lt}
-use Rattle.std.proofs.lemmas.Nat.{xor_lt, or_lt}
-use Rattle.std.proofs.lemmas.Int.{ints}
-use Rattle.std.proofs.lemmas.Bool.Decides.{nat_tests, leb_tells}
-use Rattle.std.proofs.Math.Nat.{mod-eq_of_lt, pow-suc, add-mod_left, div-le_self, zero-div, div-one}
-use Rattle.std.proofs.lemmas.Nat.{shr-shr}
-use Rattle.netlist_core.specs.declared.cell.CellKind.{CellKind}
-use Rattle.netlist_core.specs.declared.cell.CellKind.TheVariants.{And, Or, Xor, Xnor, Add, Sub, Mul, Lt, Le, Gt, Ge, Eq, Ne, Shl, Shr, Sshr, Land, Lor}
-use Rattle.netlist_core.specs.Numbers.{number}
 use Rattle.netlist_core.specs.Numbers as n
-use Rattle.netlist_core.specs.Cells.{cell_value, is_less, signed_number, some_one, top_bit, shifted_down}
-use Rattle.vlog_meaning.specs.declared.shapes.Shape.{Shape}
-use Rattle.vlog_meaning.specs.Integers.{integer, low_bits, halved}
-use Rattle.vlog_meaning.specs.Operators.{digit, binary_value}
-use Rattle.std.specs.Prelude.{Some}
-use Rattle.std.proofs.lemmas.List.{map-append, length-append, length-drop, length-replicate}
-use Rattle.std.proofs.Math.Pow.{pow_mono}
-use Rattle.vlog_syntax.specs.declared.operator.BinaryOperator.{BinaryOperator}
 use Rattle.vlog_syntax.specs.declared.operator.BinaryOperator.TheVariants as b
-use Rattle.vlog_meaning.specs.Operators.{sizing, ArePaired, result_width}
-use Rattle.expr_plans.specs.Kinds.{binary_kind, is_order}
 
 -- the words `digit` of both crates
 pub same_digit : (x : Bool) → n.digit x ≡ digit x
@@ -36,14 +21,6 @@ pub digit_le : (x : Bool) → n.digit x ≤ 1
 digit_le true = omega arith
 digit_le false = omega arith
 
-pub bits_fit : (xs : List Bool) → number xs < 2 ^ length xs
-bits_fit [] = omega arith
-bits_fit (x ∷ more) =
-    let e = bits_fit more in
-    let d : 2 ^ suc (length more) ≡ 2 ^ length more * 2 = pow-suc 2 (length more) in
-    let one : n.digit x ≤ 1 = digit_le x in
-    omega arith
-
 -- a family where nothing is to be shown: sums and products
 pub add_cell : (s t : Shape) (xs ys : List Bool) → cell_value Add false s.width (xs ∷ ys ∷ []) ≡ binary_value b.Add s (number xs) t (number ys)
 add_cell s t xs ys = refl
@@ -56,13 +33,13 @@ shift_left_cell s t xs ys = refl
 
 -- bitwise operators: the value fits already
 pub and_cell : (s t : Shape) (xs ys : List Bool) → length xs ≡ s.width → length ys ≡ s.width → cell_value And false s.width (xs ∷ ys ∷ []) ≡ binary_value b.BitwiseAnd s (number xs) t (number ys)
-and_cell s t xs ys lx ly = mod-eq_of_lt (and_lt s.width (number xs) (number ys) (rw (← lx) (bits_fit xs)) (rw (← ly) (bits_fit ys)))
+and_cell s t xs ys lx ly = mod-eq_of_lt (and_lt s.width (number xs) (number ys) (rw (← lx) (number-fits xs)) (rw (← ly) (number-fits ys)))
 
 pub or_cell : (s t : Shape) (xs ys : List Bool) → length xs ≡ s.width → length ys ≡ s.width → cell_value Or false s.width (xs ∷ ys ∷ []) ≡ binary_value b.BitwiseOr s (number xs) t (number ys)
-or_cell s t xs ys lx ly = mod-eq_of_lt (or_lt s.width (number xs) (number ys) (rw (← lx) (bits_fit xs)) (rw (← ly) (bits_fit ys)))
+or_cell s t xs ys lx ly = mod-eq_of_lt (or_lt s.width (number xs) (number ys) (rw (← lx) (number-fits xs)) (rw (← ly) (number-fits ys)))
 
 pub xor_cell : (s t : Shape) (xs ys : List Bool) → length xs ≡ s.width → length ys ≡ s.width → cell_value Xor false s.width (xs ∷ ys ∷ []) ≡ binary_value b.BitwiseXor s (number xs) t (number ys)
-xor_cell s t xs ys lx ly = mod-eq_of_lt (xor_lt s.width (number xs) (number ys) (rw (← lx) (bits_fit xs)) (rw (← ly) (bits_fit ys)))
+xor_cell s t xs ys lx ly = mod-eq_of_lt (xor_lt s.width (number xs) (number ys) (rw (← lx) (number-fits xs)) (rw (← ly) (number-fits ys)))
 
 -- a difference
 not_less : (w a c : ℕ) → c ≤ a → a < 2 ^ w → (2 ^ w + a - c) % 2 ^ w ≡ low_bits w (pos a -ℤ pos c)
@@ -82,7 +59,7 @@ difference : (w a c : ℕ) → a < 2 ^ w → c < 2 ^ w → (2 ^ w + a - c) % 2 ^
 difference w a c fa fc = elim (leb_tells c a) [ inl h ↦ not_less w a c (h.1) fa | inr h ↦ less w a c (omega (arith, h.1)) fc ]
 
 pub subtract_cell : (s t : Shape) (xs ys : List Bool) → length xs ≡ s.width → length ys ≡ s.width → cell_value Sub false s.width (xs ∷ ys ∷ []) ≡ binary_value b.Subtract s (number xs) t (number ys)
-subtract_cell s t xs ys lx ly = difference s.width (number xs) (number ys) (rw (← lx) (bits_fit xs)) (rw (← ly) (bits_fit ys))
+subtract_cell s t xs ys lx ly = difference s.width (number xs) (number ys) (rw (← lx) (number-fits xs)) (rw (← ly) (number-fits ys))
 
 -- equality
 pub equal_cell : (s t : Shape) (xs ys : List Bool) → cell_value Eq false 1 (xs ∷ ys ∷ []) ≡ binary_value b.LogicalEquality s (number xs) t (number ys)
@@ -162,7 +139,7 @@ pub shift_right_cell : (s t : Shape) (xs ys : List Bool) → length xs ≡ s.wid
 shift_right_cell s t xs ys lx =
     let e : number (shifted_down xs (number ys) false) ≡ number xs / 2 ^ number ys = number-zeros (drop (number ys) xs) (length xs - length (drop (number ys) xs)) ∙ number-drop (number ys) xs in
     let le : number xs / 2 ^ number ys ≤ number xs = div-le_self (number xs) (2 ^ number ys) in
-    let fits : number xs < 2 ^ s.width = rw (← lx) (bits_fit xs) in
+    let fits : number xs < 2 ^ s.width = rw (← lx) (number-fits xs) in
     rw e (mod-eq_of_lt (omega arith))
 
 -- an unsigned `>>>` is `>>`
@@ -240,7 +217,7 @@ signed_shift s xs k false sign some lx top =
     let plain : signed_number xs ≡ pos (number xs) = ap (λ (b : Bool). if b then pos (number xs) -ℤ pos (2 ^ length xs) else pos (number xs)) top in
     ap (λ (j : ℕ). j % 2 ^ s.width) e ∙ ap (λ (z : ℤ). low_bits s.width (halved z k)) (sym plain ∙ same)
 signed_shift s xs k true sign some lx top =
-    let fits : number xs < 2 ^ length xs = bits_fit xs in
+    let fits : number xs < 2 ^ length xs = number-fits xs in
     let same : signed_number xs ≡ integer s (number xs) = signed_is s xs sign some lx in
     let below : pos (number xs) -ℤ pos (2 ^ length xs) ≡ negsuc (2 ^ length xs - 1 - number xs) = omega (arith, ints) in
     let negative : signed_number xs ≡ negsuc (2 ^ length xs - 1 - number xs) = ap (λ (b : Bool). if b then pos (number xs) -ℤ pos (2 ^ length xs) else pos (number xs)) top ∙ below in
@@ -257,7 +234,7 @@ shift_kind s kind b e k = some_of (if s.is_signed then Sshr else Shr) kind k ∙
 
 arithmetic_cell : (kind : CellKind) (s t : Shape) (xs ys : List Bool) (b : Bool) → s.is_signed ≡ b → Some (if s.is_signed then Sshr else Shr) ≡ Some kind → 1 ≤ s.width → length xs ≡ s.width → cell_value kind (is_order kind && s.is_signed) s.width (xs ∷ ys ∷ []) ≡ low_bits s.width (halved (integer s (number xs)) (number ys))
 arithmetic_cell kind s t xs ys true e k some lx = rw (shift_kind s kind true e k) (signed_shift s xs (number ys) (top_bit xs) e some lx refl)
-arithmetic_cell kind s t xs ys false e k some lx = rw (shift_kind s kind false e k) (shift_right_cell s t xs ys lx ∙ sym (unsigned_halved s (number xs) (number ys) e (rw (← lx) (bits_fit xs))))
+arithmetic_cell kind s t xs ys false e k some lx = rw (shift_kind s kind false e k) (shift_right_cell s t xs ys lx ∙ sym (unsigned_halved s (number xs) (number ys) e (rw (← lx) (number-fits xs))))
 
 -- the table of kinds, whole
 pub binary_cell : (op : BinaryOperator) (kind : CellKind) (s t : Shape) (xs ys : List Bool) → binary_kind op s.is_signed ≡ Some kind → 1 ≤ s.width → length xs ≡ s.width → length ys ≡ t.width → ArePaired (sizing op) s t → cell_value kind (is_order kind && s.is_signed) (result_width (sizing op) s) (xs ∷ ys ∷ []) ≡ binary_value op s (number xs) t (number ys)

@@ -1,94 +1,18 @@
 -- What is laid of an expression of each production, from what is laid of its parts.
-use Rattle.std.proofs.Common.{◌≡◌, ℕ, zero, suc, ◌+◌, ◌<◌, ◌-ℤ◌, ℤ, pos, ◌&&◌, Bool, true, false, List, [], ◌∷◌, ◌++◌, map, refl, sym, ap, ◌∙◌, subst, drop, get_or, length, arith}
-use Rattle.std.specs.Prelude.{if◌then◌else◌, Option, Some, None, nat_lt}
-use Rattle.mcy_base.specs.declared.span.Span.{Span}
-use Rattle.netlist_core.specs.declared.bit.Bit.{Bit}
-use Rattle.netlist_core.specs.declared.cell.CellKind.{CellKind}
-use Rattle.netlist_core.specs.declared.cell.CellKind.TheVariants.{Ror, Pick}
-use Rattle.vlog_syntax.specs.declared.identifier.Number.{Number}
-use Rattle.vlog_syntax.specs.declared.identifier.Identifier.{Identifier}
-use Rattle.vlog_syntax.specs.declared.operator.UnaryOperator.{UnaryOperator}
-use Rattle.vlog_syntax.specs.declared.operator.BinaryOperator.{BinaryOperator}
-use Rattle.vlog_syntax.specs.declared.expr.Expr.{Expr}
+use Rattle.elab_expr.proofs.Common.{◌≡◌, Bool, true, false, List, refl, sym, ap, ◌∙◌, if◌then◌else◌, Span, Number, Identifier, UnaryOperator, BinaryOperator, Expr, Expr-F, roll-Expr, first_token}
+use Rattle.elab_expr.proofs.Common.{first_step, Shape, Names, nothing, Sense, sense, step, is_empty, Building, Laid, Layout, layout, layouts, layout_step, lay, lay_step, showing, number_bits}
 use Rattle.vlog_syntax.specs.declared.expr.Expr.TheOpen as e
-use Rattle.vlog_syntax.specs.declared.expr.Expr.TheOpen.{Expr-F}
 use Rattle.vlog_syntax.specs.declared.expr.Expr.TheVariants as v
-use Rattle.vlog_syntax.specs.declared.expr.Expr.TheViews.{roll-Expr}
 use Rattle.vlog_syntax.specs.declared.expr.Expr.TheFolds.{fold-roll-Expr, ind-Expr, map-Expr}
-use Rattle.vlog_syntax.specs.Places.{first_token, first_step}
-use Rattle.vlog_meaning.specs.declared.scope.Decl.{Decl}
-use Rattle.vlog_meaning.specs.declared.shapes.Shape.{Shape}
-use Rattle.vlog_meaning.specs.Functions.{function_of}
-use Rattle.vlog_meaning.specs.Integers.{natural}
-use Rattle.vlog_meaning.specs.Operators.{sizing, left_context, right_context, result_width, operand_context, is_reduction}
-use Rattle.vlog_meaning.specs.Scopes.{Names, nothing, decl_low}
-use Rattle.vlog_meaning.specs.Senses.{Sense, sense, step, own, is_empty, constant_integer}
-use Rattle.net_builder.specs.Building.{Building, fresh_bits, with_cell}
-use Rattle.elab_expr.specs.Evaluates.{takes_sign}
-use Rattle.expr_plans.specs.Kinds.{unary_kind, binary_kind, is_order}
-use Rattle.elab_expr.specs.Laid.{Laid, Layout, layout, layouts, layout_step, lay, lay_own, lay_step, lay_parts, lay_select, lay_unary, lay_binary, lay_condition, lay_arms, showing, cell, at_width, unary_cell, binary_cell, mux_cell, reduced, name_bits, number_bits, widened, bits_from, times}
+use Rattle.expr_plans.proofs.Fusion.{fused}
 
 -- A layout says what the expression says, and begins where it begins.
-pub record Lays (names : Names) (x : Expr) : Type 0 where
-  pub sense : (layout names x).sense ≡ sense names x
-  pub first : (layout names x).first ≡ first_token x
-
-abbrev Proved : Names → Type 0
-Proved names = (x : Expr) × Lays names x
-
-all_say : (names : Names) (ws : List (Proved names)) → map (λ (p : Layout). p.sense) (map (layout names) (map (λ (w : Proved names). w.0) ws)) ≡ map (sense names) (map (λ (w : Proved names). w.0) ws)
-all_say names [] = refl
-all_say names (w ∷ more) = rw (w.1.sense, all_say names more) refl
-
-all_begin : (names : Names) (ws : List (Proved names)) → map (λ (p : Layout). p.first) (map (layout names) (map (λ (w : Proved names). w.0) ws)) ≡ map first_token (map (λ (w : Proved names). w.0) ws)
-all_begin names [] = refl
-all_begin names (w ∷ more) = rw (w.1.first, all_begin names more) refl
-
-senses_same : (names : Names) (y : Expr-F (Proved names)) → map-Expr Layout Sense (λ p. p.sense) (map-Expr Expr Layout (layout names) (map-Expr (Proved names) Expr (λ (w : Proved names). w.0) y)) ≡ map-Expr Expr Sense (sense names) (map-Expr (Proved names) Expr (λ (w : Proved names). w.0) y)
-senses_same names (e.Number n) = refl
-senses_same names (e.Name n) = refl
-senses_same names (e.BitSelect n s i) = rw (i.1.sense) refl
-senses_same names (e.PartSelect n s m l) = rw (m.1.sense, l.1.sense) refl
-senses_same names (e.IndexedPartSelect n s b w) = rw (b.1.sense, w.1.sense) refl
-senses_same names (e.Parenthesized s i) = rw (i.1.sense) refl
-senses_same names (e.Unary s op i) = rw (i.1.sense) refl
-senses_same names (e.Binary s op i j) = rw (i.1.sense, j.1.sense) refl
-senses_same names (e.Conditional s x i j) = rw (x.1.sense, i.1.sense, j.1.sense) refl
-senses_same names (e.Concatenation s ps) = rw (all_say names ps) refl
-senses_same names (e.MultipleConcatenation s k ps) = rw (k.1.sense, all_say names ps) refl
-senses_same names (e.SystemFunctionCall n ps) = rw (all_say names ps) refl
-
-firsts_same : (names : Names) (y : Expr-F (Proved names)) → map-Expr Layout Span (λ p. p.first) (map-Expr Expr Layout (layout names) (map-Expr (Proved names) Expr (λ (w : Proved names). w.0) y)) ≡ map-Expr Expr Span first_token (map-Expr (Proved names) Expr (λ (w : Proved names). w.0) y)
-firsts_same names (e.Number n) = refl
-firsts_same names (e.Name n) = refl
-firsts_same names (e.BitSelect n s i) = rw (i.1.first) refl
-firsts_same names (e.PartSelect n s m l) = rw (m.1.first, l.1.first) refl
-firsts_same names (e.IndexedPartSelect n s b w) = rw (b.1.first, w.1.first) refl
-firsts_same names (e.Parenthesized s i) = rw (i.1.first) refl
-firsts_same names (e.Unary s op i) = rw (i.1.first) refl
-firsts_same names (e.Binary s op i j) = rw (i.1.first, j.1.first) refl
-firsts_same names (e.Conditional s x i j) = rw (x.1.first, i.1.first, j.1.first) refl
-firsts_same names (e.Concatenation s ps) = rw (all_begin names ps) refl
-firsts_same names (e.MultipleConcatenation s k ps) = rw (k.1.first, all_begin names ps) refl
-firsts_same names (e.SystemFunctionCall n ps) = rw (all_begin names ps) refl
-
-from_step : (names : Names) (x : Expr-F Expr) → map-Expr Layout Sense (λ p. p.sense) (map-Expr Expr Layout (layout names) x) ≡ map-Expr Expr Sense (sense names) x → map-Expr Layout Span (λ p. p.first) (map-Expr Expr Layout (layout names) x) ≡ map-Expr Expr Span first_token x → Lays names (roll-Expr x)
-from_step names x s f = record {
-  sense = ap (λ (p : Layout). p.sense) (fold-roll-Expr Layout (layout_step names) x) ∙ ap (step names) s ∙ sym (fold-roll-Expr Sense (step names) x);
-  first = ap (λ (p : Layout). p.first) (fold-roll-Expr Layout (layout_step names) x) ∙ ap first_step f ∙ sym (fold-roll-Expr Span first_step x);
-}
-
-abbrev Same : Names → Expr-F Expr → Type 0
-Same names x = (map-Expr Layout Sense (λ p. p.sense) (map-Expr Expr Layout (layout names) x) ≡ map-Expr Expr Sense (sense names) x) × (map-Expr Layout Span (λ p. p.first) (map-Expr Expr Layout (layout names) x) ≡ map-Expr Expr Span first_token x)
-
-lays : (names : Names) (x : Expr) → Lays names x
-lays names = ind-Expr (Lays names) (λ x y is. let same : Same names x = subst (Same names) is (senses_same names y, firsts_same names y) in from_step names x same.0 same.1)
 
 pub layout_sense : (names : Names) (x : Expr) → (layout names x).sense ≡ sense names x
-layout_sense names x = (lays names x).sense
+layout_sense names = fused (λ (p : Layout). p.sense) (layout_step names) (step names) (λ y. refl)
 
 pub layout_first : (names : Names) (x : Expr) → (layout names x).first ≡ first_token x
-layout_first names x = (lays names x).first
+layout_first names = fused (λ (p : Layout). p.first) (layout_step names) first_step (λ y. refl)
 
 -- Constants, and what is none.
 

@@ -1,29 +1,13 @@
 -- What is laid of the parts of an expression, put together as its production says.
-use Rattle.std.proofs.Common.{◌≡◌, ℕ, zero, suc, ◌+◌, ◌<◌, ◌-ℤ◌, ℤ, pos, ◌&&◌, Bool, true, false, List, [], ◌∷◌, ◌++◌, refl, sym, ap, ◌∙◌, take, get_or, length, arith}
-use Rattle.std.specs.Prelude.{if◌then◌else◌, Option}
-use Rattle.mcy_base.specs.declared.span.Span.{Span}
-use Rattle.netlist_core.specs.declared.bit.Bit.{Bit}
-use Rattle.netlist_core.specs.declared.cell.CellKind.TheVariants.{Pick}
-use Rattle.vlog_syntax.specs.declared.identifier.Number.{Number}
-use Rattle.vlog_syntax.specs.declared.identifier.Identifier.{Identifier}
-use Rattle.vlog_syntax.specs.declared.operator.UnaryOperator.{UnaryOperator}
-use Rattle.vlog_syntax.specs.declared.operator.BinaryOperator.{BinaryOperator}
-use Rattle.vlog_syntax.specs.declared.expr.Expr.{Expr}
+use Rattle.elab_expr.proofs.Common.{◌≡◌, ℕ, zero, suc, ◌<◌, ◌-ℤ◌, ℤ, pos, ◌&&◌, Bool, true, false, List, [], ◌∷◌, ◌++◌, sym, ap, ◌∙◌, take, get_or, length, arith, if◌then◌else◌, Option, Span, Bit}
+use Rattle.elab_expr.proofs.Common.{Pick, Number, Identifier, UnaryOperator, BinaryOperator, Expr, first_token, Decl, Shape, function_of, natural, sizing, left_context, right_context, result_width}
+use Rattle.elab_expr.proofs.Common.{operand_context, is_reduction, Names, nothing, decl_low, Sense, sense, is_empty, constant_integer, Building, takes_sign, unary_kind, binary_kind, Laid, Layout}
+use Rattle.elab_expr.proofs.Common.{layout, layouts, lay, lay_own, lay_parts, lay_select, lay_unary, lay_binary, lay_condition, lay_arms, showing, cell, index_bits, at_width, unary_cell, binary_cell}
+use Rattle.elab_expr.proofs.Common.{mux_cell, reduced, name_bits, number_bits, widened, bits_from, times}
 use Rattle.vlog_syntax.specs.declared.expr.Expr.TheOpen as e
 use Rattle.vlog_syntax.specs.declared.expr.Expr.TheVariants as v
-use Rattle.vlog_syntax.specs.Places.{first_token}
-use Rattle.vlog_meaning.specs.declared.scope.Decl.{Decl}
-use Rattle.vlog_meaning.specs.declared.shapes.Shape.{Shape}
-use Rattle.vlog_meaning.specs.Functions.{function_of}
-use Rattle.vlog_meaning.specs.Integers.{natural}
-use Rattle.vlog_meaning.specs.Operators.{sizing, left_context, right_context, result_width, operand_context, is_reduction}
-use Rattle.vlog_meaning.specs.Scopes.{Names, nothing, decl_low}
-use Rattle.vlog_meaning.specs.Senses.{Sense, sense, is_empty, constant_integer}
-use Rattle.net_builder.specs.Building.{Building}
-use Rattle.elab_expr.specs.Evaluates.{takes_sign}
-use Rattle.expr_plans.specs.Kinds.{unary_kind, binary_kind}
-use Rattle.elab_expr.specs.Laid.{Laid, Layout, layout, layouts, lay, lay_own, lay_parts, lay_select, lay_unary, lay_binary, lay_condition, lay_arms, showing, cell, index_bits, at_width, unary_cell, binary_cell, mux_cell, reduced, name_bits, number_bits, widened, bits_from, times}
-use Rattle.elab_expr.proofs.Layouts.{layout_sense, layout_first, lay_constant, lay_varies, layout_number, layout_name, layout_bit_select, layout_part_select, layout_indexed_part_select, layout_parenthesized, layout_unary, layout_binary, layout_conditional, layout_concatenation, layout_multiple_concatenation, layout_system_function_call}
+use Rattle.elab_expr.proofs.Layouts.{layout_sense, layout_first, lay_constant, lay_varies, layout_number, layout_name, layout_bit_select, layout_part_select, layout_indexed_part_select}
+use Rattle.elab_expr.proofs.Layouts.{layout_parenthesized, layout_unary, layout_binary, layout_conditional, layout_concatenation, layout_multiple_concatenation, layout_system_function_call}
 
 -- `op i`
 pub unary_laid : (names : Names) (i : Expr) (op : UnaryOperator) (span : Span) (c at : Shape) (o m n : Building) (a y : List Bit) → at ≡ operand_context op (sense names i).shape c → showing m a ≡ lay names i at o → showing n y ≡ at_width c.width (unary_cell (unary_kind op) (if is_reduction op then 1 else at.width) span (showing m a)) → showing n y ≡ lay_unary span op (layout names i) c o

@@ -1,31 +1,13 @@
 -- What the cell of a node shows in a run, and that its ports have the widths of its kind.
-use Rattle.std.proofs.Common.{◌≡◌, ℕ, ◌≤◌, ◌&&◌, ◌==◌, Bool, true, false, ◌∷◌, [], List, ◌∙◌, ap, sym, refl, length, pos}
-use Rattle.std.specs.Prelude.{Some, if◌then◌else◌}
-use Rattle.std.proofs.lemmas.List.{length-map}
-use Rattle.mcy_base.specs.declared.span.Span.{Span}
-use Rattle.vlog_syntax.specs.declared.operator.UnaryOperator.{UnaryOperator}
+use Rattle.elab_expr.proofs.Common.{◌≡◌, ℕ, ◌≤◌, ◌&&◌, ◌==◌, Bool, true, false, ◌∷◌, [], List, ◌∙◌, ap, sym, refl, length, pos, Some, if◌then◌else◌, Span, UnaryOperator, BinaryOperator, Bit, CellKind}
+use Rattle.elab_expr.proofs.Common.{Not, Neg, And, Or, Xor, Xnor, Add, Sub, Mul, Lt, Le, Gt, Ge, Eq, Ne, Shl, Shr, Sshr, Rand, Ror, Rxor, Rnand, Rnor, Rxnor, Lnot, Land, Lor, Mux, Pick, Put, number}
+use Rattle.elab_expr.proofs.Common.{laid_at, Nets, values, shape_of, HasWidths, Shape, window, sizing, ArePaired, result_width, is_reduction, unary_value, binary_value, Building, RunsIn, with_cell}
+use Rattle.elab_expr.proofs.Common.{fresh_bits, unary_kind, binary_kind, is_order, shows, length-values}
 use Rattle.vlog_syntax.specs.declared.operator.UnaryOperator.TheVariants as u
-use Rattle.vlog_syntax.specs.declared.operator.BinaryOperator.{BinaryOperator}
 use Rattle.vlog_syntax.specs.declared.operator.BinaryOperator.TheVariants as b
-use Rattle.netlist_core.specs.declared.bit.Bit.{Bit}
-use Rattle.netlist_core.specs.declared.cell.CellKind.{CellKind}
-use Rattle.netlist_core.specs.declared.cell.CellKind.TheVariants.{Not, Neg, And, Or, Xor, Xnor, Add, Sub, Mul, Lt, Le, Gt, Ge, Eq, Ne, Shl, Shr, Sshr, Rand, Ror, Rxor, Rnand, Rnor, Rxnor, Lnot, Land, Lor, Mux, Pick, Put}
-use Rattle.netlist_core.specs.Numbers.{number}
-use Rattle.netlist_core.specs.Cells.{laid_at}
-use Rattle.netlist_core.specs.Runs.{Nets, bit_value, values}
-use Rattle.netlist_core.specs.Shapes.{shape_of, HasWidths}
-use Rattle.vlog_meaning.specs.declared.shapes.Shape.{Shape}
-use Rattle.vlog_meaning.specs.Integers.{window}
-use Rattle.vlog_meaning.specs.Operators.{sizing, ArePaired, result_width, is_reduction, unary_value, binary_value}
-use Rattle.net_builder.specs.Building.{Building, RunsIn, with_cell, fresh_bits}
-use Rattle.expr_plans.specs.Kinds.{unary_kind, binary_kind, is_order}
 use Rattle.elab_expr.proofs.KindLemmas as cells
 use Rattle.elab_expr.proofs.KindLemmas.{some_of}
 use Rattle.elab_expr.proofs.UnaryLemmas as more
-use Rattle.net_builder.proofs.Parts.{shows}
-
-pub length_values : (nets : Nets) (bits : List Bit) → length (values nets bits) ≡ length bits
-length_values nets bits = length-map bits (bit_value nets)
 
 -- Widths.
 
@@ -78,16 +60,16 @@ binary_widths b.LogicalOr kind s t k p = rw (some_of Lor kind k) refl
 
 pub unary_shows : (old new : Building) (op : UnaryOperator) (kind : CellKind) (s : Shape) (a y : List Bit) (span : Span) (nets : Nets) → unary_kind op ≡ Some kind → length a ≡ s.width → y ≡ fresh_bits old.nets (if is_reduction op then 1 else s.width) → new ≡ with_cell old kind false (a ∷ []) (if is_reduction op then 1 else s.width) span → RunsIn new nets → number (values nets y) ≡ unary_value op s (number (values nets a))
 unary_shows old new op kind s a y span nets k la is_y is runs =
-    shows old new kind false (a ∷ []) (if is_reduction op then 1 else s.width) span y nets is_y is runs ∙ more.unary_cell op kind s (values nets a) k (length_values nets a ∙ la)
+    shows old new kind false (a ∷ []) (if is_reduction op then 1 else s.width) span y nets is_y is runs ∙ more.unary_cell op kind s (values nets a) k (length-values nets a ∙ la)
 
 pub binary_shows : (old new : Building) (op : BinaryOperator) (kind : CellKind) (s t : Shape) (a b y : List Bit) (span : Span) (nets : Nets) → binary_kind op s.is_signed ≡ Some kind → 1 ≤ s.width → length a ≡ s.width → length b ≡ t.width → ArePaired (sizing op) s t → y ≡ fresh_bits old.nets (result_width (sizing op) s) → new ≡ with_cell old kind (is_order kind && s.is_signed) (a ∷ b ∷ []) (result_width (sizing op) s) span → RunsIn new nets → number (values nets y) ≡ binary_value op s (number (values nets a)) t (number (values nets b))
 binary_shows old new op kind s t a b y span nets k some la lb paired is_y is runs =
     shows old new kind (is_order kind && s.is_signed) (a ∷ b ∷ []) (result_width (sizing op) s) span y nets is_y is runs
-    ∙ cells.binary_cell op kind s t (values nets a) (values nets b) k some (length_values nets a ∙ la) (length_values nets b ∙ lb) paired
+    ∙ cells.binary_cell op kind s t (values nets a) (values nets b) k some (length-values nets a ∙ la) (length-values nets b ∙ lb) paired
 
 pub mux_shows : (old new : Building) (w : ℕ) (s nay yea y : List Bit) (span : Span) (nets : Nets) → length nay ≡ w → length yea ≡ w → y ≡ fresh_bits old.nets w → new ≡ with_cell old Mux false (s ∷ nay ∷ yea ∷ []) w span → RunsIn new nets → number (values nets y) ≡ (if number (values nets s) == 0 then number (values nets nay) else number (values nets yea))
 mux_shows old new w s nay yea y span nets ln ly is_y is runs =
-    shows old new Mux false (s ∷ nay ∷ yea ∷ []) w span y nets is_y is runs ∙ more.mux_cell w (values nets s) (values nets nay) (values nets yea) (length_values nets nay ∙ ln) (length_values nets yea ∙ ly)
+    shows old new Mux false (s ∷ nay ∷ yea ∷ []) w span y nets is_y is runs ∙ more.mux_cell w (values nets s) (values nets nay) (values nets yea) (length-values nets nay ∙ ln) (length-values nets yea ∙ ly)
 
 pub pick_shows : (old new : Building) (w : ℕ) (a i y : List Bit) (span : Span) (nets : Nets) → y ≡ fresh_bits old.nets w → new ≡ with_cell old Pick false (a ∷ i ∷ []) w span → RunsIn new nets → number (values nets y) ≡ window (pos (number (values nets i))) w (number (values nets a))
 pick_shows old new w a i y span nets is_y is runs =
@@ -95,7 +77,7 @@ pick_shows old new w a i y span nets is_y is runs =
 
 pub put_shows : (old new : Building) (w : ℕ) (a i d y : List Bit) (span : Span) (nets : Nets) → length a ≡ w → y ≡ fresh_bits old.nets w → new ≡ with_cell old Put false (a ∷ i ∷ d ∷ []) w span → RunsIn new nets → number (values nets y) ≡ number (laid_at (values nets a) (number (values nets i)) (values nets d))
 put_shows old new w a i d y span nets la is_y is runs =
-    shows old new Put false (a ∷ i ∷ d ∷ []) w span y nets is_y is runs ∙ more.put_cell w (values nets a) (values nets i) (values nets d) (length_values nets a ∙ la)
+    shows old new Put false (a ∷ i ∷ d ∷ []) w span y nets is_y is runs ∙ more.put_cell w (values nets a) (values nets i) (values nets d) (length-values nets a ∙ la)
 
 pub ror_shows : (old new : Building) (a y : List Bit) (span : Span) (nets : Nets) → y ≡ fresh_bits old.nets 1 → new ≡ with_cell old Ror false (a ∷ []) 1 span → RunsIn new nets → (number (values nets y) == 0) ≡ (number (values nets a) == 0)
 ror_shows old new a y span nets is_y is runs =

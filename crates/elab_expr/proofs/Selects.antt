@@ -1,21 +1,9 @@
 -- Bits of selects, and bits side by side.
-use Rattle.std.proofs.Common.{◌≡◌, ℕ, zero, suc, ◌+◌, ◌-◌, ◌*◌, ◌/◌, ◌%◌, ◌<◌, ◌≤◌, ◌^◌, ℤ, pos, negsuc, ◌-ℤ◌, ◌+ℤ◌, min, Bool, true, false, nat_le, replicate, List, [], ◌∷◌, ◌++◌, length, refl, sym, ap, ◌∙◌, arith, subst}
-use Rattle.std.proofs.lemmas.Int.{ints}
-use Rattle.std.proofs.Math.Nat.{pow-suc, mod-one}
-use Rattle.std.proofs.lemmas.Bool.Decides.{nat_tests}
-use Rattle.std.proofs.lemmas.List.{length-append}
-use Rattle.std.proofs.lemmas.Nat.{mod-pow-add, shr-shr, shl-shr, pow-add}
-use Rattle.netlist_core.specs.declared.bit.Bit.{Bit}
-use Rattle.netlist_core.specs.declared.bit.Bit.TheVariants.{Fixed, Net}
-use Rattle.netlist_core.specs.Numbers.{digit, number}
-use Rattle.netlist_core.specs.Runs.{Nets, bit_value, values}
-use Rattle.vlog_meaning.specs.declared.bound.Bound.{Bound}
-use Rattle.vlog_meaning.specs.Integers.{window, bound_integer}
-use Rattle.vlog_meaning.specs.Senses.{repeated}
-use Rattle.net_builder.specs.Building.{AllBelow}
-use Rattle.elab_expr.specs.Wiring.{fill_bit, bit_or_0, window_digit}
+use Rattle.elab_expr.proofs.Common.{◌≡◌, ℕ, zero, suc, ◌+◌, ◌-◌, ◌*◌, ◌/◌, ◌%◌, ◌<◌, ◌≤◌, ◌^◌, ℤ, pos, negsuc, ◌-ℤ◌, ◌+ℤ◌, min, Bool, true, false, nat_le, replicate, List, [], ◌∷◌, ◌++◌, length, refl}
+use Rattle.elab_expr.proofs.Common.{sym, ap, ◌∙◌, arith, subst, ints, pow-suc, mod-one, nat_tests, length-append, mod-pow-add, shr-shr, shl-shr, pow-add, Bit, Fixed, Net, number, Nets, bit_value}
+use Rattle.elab_expr.proofs.Common.{values, Bound, window, bound_integer, repeated, AllBelow, fill_bit, bit_or_0, window_digit, below_append}
+use Rattle.netlist_core.specs.Numbers.{digit}
 use Rattle.elab_expr.proofs.Bits.{digit-small, number-push}
-use Rattle.net_builder.proofs.Parts.{below_append}
 
 -- a digit of a number is that of its bit
 pub digit_at : (nets : Nets) (bits : List Bit) (i : ℕ) → digit (bit_value nets (bit_or_0 bits i)) ≡ number (values nets bits) / 2 ^ i % 2

@@ -1,19 +1,8 @@
 -- What an operator lays, from what the calls below it tell.
-use Rattle.std.proofs.Common.{◌≡◌, ℕ, ◌<◌, ◌≤◌, ◌&&◌, Bool, true, false, List, [], ◌∷◌, refl, sym, ap, ◌∙◌, arith}
-use Rattle.std.proofs.lemmas.Bool.Decides.{nat_tests}
-use Rattle.std.specs.Prelude.{Option, Some, None, nat_lt, if◌then◌else◌}
-use Rattle.mcy_base.specs.declared.span.Span.{Span}
-use Rattle.netlist_core.specs.declared.bit.Bit.{Bit}
-use Rattle.netlist_core.specs.declared.cell.CellKind.{CellKind}
-use Rattle.netlist_core.specs.declared.cell.CellKind.TheVariants.{Ror, Pick}
-use Rattle.vlog_syntax.specs.declared.operator.UnaryOperator.{UnaryOperator}
-use Rattle.vlog_syntax.specs.declared.operator.BinaryOperator.{BinaryOperator}
-use Rattle.vlog_meaning.specs.declared.scope.Decl.{Decl}
-use Rattle.vlog_meaning.specs.declared.shapes.Shape.{Shape}
-use Rattle.vlog_meaning.specs.Operators.{sizing, result_width, is_reduction}
-use Rattle.net_builder.specs.Building.{Building, fresh_bits, with_cell}
-use Rattle.expr_plans.specs.Kinds.{unary_kind, binary_kind, is_order}
-use Rattle.elab_expr.specs.Laid.{Laid, showing, cell, at_width, widened, name_bits, unary_cell, binary_cell, reduced}
+use Rattle.elab_expr.proofs.Common.{◌≡◌, ℕ, ◌<◌, ◌≤◌, ◌&&◌, Bool, true, false, List, [], ◌∷◌, refl, sym, ap, ◌∙◌, arith, nat_tests, Option, Some, None, if◌then◌else◌, Span, Bit, CellKind, Ror, Pick}
+use Rattle.elab_expr.proofs.Common.{UnaryOperator, BinaryOperator, Decl, Shape, sizing, result_width, is_reduction, Building, fresh_bits, with_cell, unary_kind, binary_kind, is_order, showing, cell}
+use Rattle.elab_expr.proofs.Common.{at_width, widened, name_bits, unary_cell, binary_cell, reduced}
+use Rattle.std.specs.Prelude.{nat_lt}
 
 pub both_shown : (n m : Building) (y z : List Bit) → n ≡ m → y ≡ z → showing n y ≡ showing m z
 both_shown n m y z is same = ap (λ (b : Building). showing b y) is ∙ ap (showing m) same

@@ -1,21 +1,11 @@
 -- The cell of a unary operator, of a choice, of a select, of bits that are laid over others and of a condition.
-use Rattle.std.proofs.Common.{◌≡◌, ℕ, zero, suc, ◌+◌, ◌-◌, ◌*◌, ◌/◌, ◌%◌, ◌<◌, ◌≤◌, ◌^◌, Bool, true, false, not, ◌==◌, pos, neg_ℤ, List, [], ◌∷◌, length, refl, sym, ap, ◌∙◌, arith}
-use Rattle.std.specs.Prelude.{Some, take, if◌then◌else◌}
-use Rattle.std.proofs.lemmas.Bool.Decides.{nat_tests}
-use Rattle.std.proofs.Math.Nat.{mod-eq_of_lt, pow-suc}
-use Rattle.std.proofs.Math.Pow.{pow_mono}
-use Rattle.vlog_syntax.specs.declared.operator.UnaryOperator.{UnaryOperator}
+use Rattle.elab_expr.proofs.Common.{◌≡◌, ℕ, zero, suc, ◌+◌, ◌-◌, ◌*◌, ◌/◌, ◌%◌, ◌<◌, ◌≤◌, ◌^◌, Bool, true, false, not, ◌==◌, pos, neg_ℤ, List, [], ◌∷◌, length, refl, sym, ap, ◌∙◌, arith, Some}
+use Rattle.elab_expr.proofs.Common.{if◌then◌else◌, nat_tests, mod-eq_of_lt, pow-suc, pow_mono, UnaryOperator, CellKind, Not, Neg, Rand, Ror, Rxor, Rnand, Rnor, Rxnor, Lnot, Mux, Pick, Put, number}
+use Rattle.elab_expr.proofs.Common.{cell_value, all_ones, some_one, odd_ones, laid_at, Shape, low_bits, window, parity, digit, unary_value, is_reduction, unary_kind, number-fits}
+use Rattle.std.specs.Prelude.{take}
 use Rattle.vlog_syntax.specs.declared.operator.UnaryOperator.TheVariants as u
-use Rattle.netlist_core.specs.declared.cell.CellKind.{CellKind}
-use Rattle.netlist_core.specs.declared.cell.CellKind.TheVariants.{Not, Neg, Rand, Ror, Rxor, Rnand, Rnor, Rxnor, Lnot, Mux, Pick, Put}
-use Rattle.netlist_core.specs.Numbers.{number}
 use Rattle.netlist_core.specs.Numbers as n
-use Rattle.netlist_core.specs.Cells.{cell_value, all_ones, some_one, odd_ones, laid_at}
-use Rattle.vlog_meaning.specs.declared.shapes.Shape.{Shape}
-use Rattle.vlog_meaning.specs.Integers.{low_bits, window, parity}
-use Rattle.vlog_meaning.specs.Operators.{digit, unary_value, is_reduction}
-use Rattle.expr_plans.specs.Kinds.{unary_kind}
-use Rattle.elab_expr.proofs.KindLemmas.{same_digit, digit_mod, digit_le, bits_fit, some_tells, number-drop, some_of}
+use Rattle.elab_expr.proofs.KindLemmas.{same_digit, digit_mod, digit_le, some_tells, number-drop, some_of}
 
 not_not : (b : Bool) → not (not b) ≡ b
 not_not true = refl
@@ -85,7 +75,7 @@ all_value w xs lx = all_tells xs ∙ ap (λ (m : ℕ). number xs == 2 ^ m - 1) l
 -- the table of unary kinds, whole
 pub unary_cell : (op : UnaryOperator) (kind : CellKind) (s : Shape) (xs : List Bool) → unary_kind op ≡ Some kind → length xs ≡ s.width → cell_value kind false (if is_reduction op then 1 else s.width) (xs ∷ []) ≡ unary_value op s (number xs)
 unary_cell u.Plus kind s xs k lx = cc
-unary_cell u.Minus kind s xs k lx = rw (some_of Neg kind k) (negative s.width (number xs) (rw (← lx) (bits_fit xs)))
+unary_cell u.Minus kind s xs k lx = rw (some_of Neg kind k) (negative s.width (number xs) (rw (← lx) (number-fits xs)))
 unary_cell u.BitwiseNot kind s xs k lx = rw (some_of Not kind k) (inverted s.width (number xs))
 unary_cell u.LogicalNot kind s xs k lx = rw (some_of Lnot kind k) (digit_mod (not (some_one xs)) ∙ ap digit (none_tells xs))
 unary_cell u.ReductionAnd kind s xs k lx = rw (some_of Rand kind k) (digit_mod (all_ones xs) ∙ ap digit (all_value s.width xs lx))
@@ -101,7 +91,7 @@ choose false x y m ex ey = ex
 
 pub mux_cell : (w : ℕ) (s xs ys : List Bool) → length xs ≡ w → length ys ≡ w → cell_value Mux false w (s ∷ xs ∷ ys ∷ []) ≡ (if number s == 0 then number xs else number ys)
 mux_cell w s xs ys lx ly =
-    choose (some_one s) (number xs) (number ys) (2 ^ w) (mod-eq_of_lt (rw (← lx) (bits_fit xs))) (mod-eq_of_lt (rw (← ly) (bits_fit ys)))
+    choose (some_one s) (number xs) (number ys) (2 ^ w) (mod-eq_of_lt (rw (← lx) (number-fits xs))) (mod-eq_of_lt (rw (← ly) (number-fits ys)))
     ∙ ap (λ (b : Bool). if b then number xs else number ys) (none_tells s)
 
 pub pick_cell : (w : ℕ) (xs ys : List Bool) → cell_value Pick false w (xs ∷ ys ∷ []) ≡ window (pos (number ys)) w (number xs)
@@ -117,7 +107,7 @@ put_cell w xs ys zs lx =
     let l : List Bool = laid_at xs (number ys) zs in
     let short : length l ≤ length xs = take_short (length xs) _ in
     let few : length l ≤ w = omega (arith, short, lx) in
-    let fits : number l < 2 ^ length l = bits_fit l in
+    let fits : number l < 2 ^ length l = number-fits l in
     let wide : 2 ^ length l ≤ 2 ^ w = pow_mono few in
     mod-eq_of_lt (omega (arith, fits, wide))
 

@@ -1,13 +1,6 @@
 -- Bits without cells, as the loops lay them.
-use Rattle.std.proofs.Common.{◌≡◌, ℕ, zero, suc, ◌+◌, ◌-◌, ◌/◌, ◌%◌, ◌<◌, ◌≤◌, ◌^◌, ℤ, pos, negsuc, ◌-ℤ◌, ◌+ℤ◌, min, Bool, true, false, nat_eq, nat_le, replicate, List, [], ◌∷◌, ◌++◌, length, refl, sym, ap, ◌∙◌, arith, append_assoc}
-use Rattle.std.proofs.lemmas.List.{append-nil}
-use Rattle.std.proofs.lemmas.Bool.Decides.{nat_tests}
-use Rattle.netlist_core.specs.declared.bit.Bit.{Bit}
-use Rattle.netlist_core.specs.declared.bit.Bit.TheVariants.{Fixed}
-use Rattle.vlog_meaning.specs.declared.bound.Bound.{Bound}
-use Rattle.vlog_meaning.specs.Integers.{bound_integer}
-use Rattle.elab_expr.specs.Wiring.{fill_bit, bit_or_0}
-use Rattle.elab_expr.specs.Laid.{number_bits, widened, bit_of, bits_from, times}
+use Rattle.elab_expr.proofs.Common.{◌≡◌, ℕ, suc, ◌+◌, ◌-◌, ◌/◌, ◌%◌, ◌<◌, ◌≤◌, ◌^◌, ℤ, pos, negsuc, ◌-ℤ◌, ◌+ℤ◌, min, Bool, true, false, nat_eq, nat_le, replicate, List, [], ◌∷◌, ◌++◌, length, refl}
+use Rattle.elab_expr.proofs.Common.{sym, ap, ◌∙◌, arith, append_assoc, append-nil, nat_tests, Bit, Fixed, Bound, bound_integer, fill_bit, bit_or_0, number_bits, widened, bit_of, bits_from, times}
 use Rattle.elab_expr.proofs.Selects.{past_end, up_at}
 
 -- one bit of a number more

@@ -28,6 +28,13 @@ Builds old new bits width value added = Adds old new bits width (λ nets. value 
 abbrev pub Evaluates : Names → Expr → Shape → Building → Building → List Bit → Type 0
 Evaluates names x c old new bits = Builds old new bits c.width (λ signals. (sense names x).value signals c) (made names x c)
 
+-- whether a call gives the bits of its argument the sign of its context
+abbrev pub takes_sign : Option Function → Bool
+takes_sign (Some Signed) = true
+takes_sign function = false
+
+-- For proofs alone.
+
 -- bits of a builder as it stands, with their value
 pub record Holds (b : Building) (bits : List Bit) (width : ℕ) (value : Store → ℕ) : Type 0 where
   pub long : length bits ≡ width
@@ -39,8 +46,3 @@ abbrev pub TakesBits : Option Function → List Sense → Type 0
 TakesBits (Some Signed) (a ∷ []) = Unit {0}
 TakesBits (Some Unsigned) (a ∷ []) = Unit {0}
 TakesBits function arguments = ⊥
-
--- whether a call gives the bits of its argument the sign of its context
-abbrev pub takes_sign : Option Function → Bool
-takes_sign (Some Signed) = true
-takes_sign function = false

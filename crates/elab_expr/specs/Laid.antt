@@ -167,9 +167,11 @@ layout_step names x =
 abbrev pub layout : Names → Expr → Layout
 layout names = fold-Expr Layout (layout_step names)
 
-abbrev pub layouts : Names → List Expr → List Layout
-layouts names = map (layout names)
-
 -- what is laid of an expression at a width and sign
 abbrev pub lay : Names → Expr → Shape → Building → Laid
 lay names x = (layout names x).lay
+
+-- For proofs alone.
+
+abbrev pub layouts : Names → List Expr → List Layout
+layouts names = map (layout names)

@@ -19,6 +19,8 @@ fill_bit bits is_signed = if is_signed then last_bit bits else Fixed false
 abbrev pub bit_or_0 : List Bit → ℕ → Bit
 bit_or_0 bits place = slice_index_or bits place (Fixed false)
 
+-- For proofs alone.
+
 -- digit k of the bits of a number from a place on
 abbrev pub window_digit : ℤ → ℕ → ℕ → ℕ
 window_digit (pos at) k v = v / 2 ^ at / 2 ^ k % 2

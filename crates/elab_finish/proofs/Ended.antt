@@ -1,16 +1,7 @@
 -- The netlist of a builder with its registers put in order.
-use Rattle.std.proofs.Common.{◌≡◌, ◌≤◌, ◌↔◌, ℕ, List, map, Option, sym, ◌∙◌, ap, subst}
-use Rattle.netlist_core.specs.declared.bit.Bit.{Bit}
+use Rattle.elab_finish.proofs.Common.{◌≡◌, ◌≤◌, ◌↔◌, ℕ, List, map, Option, sym, ◌∙◌, ap, subst, Bit, Register, RawNetlist, bits_at, q_bits, times_at, Building, LeadsTo, step_of, led_port, Finished}
+use Rattle.elab_finish.proofs.Common.{Left, CanFinish, IsEnding, port_of, registers_in, AreSlots, AreFilled}
 use Rattle.netlist_core.specs.declared.port.Port.{Port}
-use Rattle.netlist_core.specs.declared.port.Register.{Register}
-use Rattle.netlist_core.specs.declared.raw.RawNetlist.{RawNetlist}
-use Rattle.netlist_core.specs.Runs.{bits_at, q_bits}
-use Rattle.netlist_core.specs.Drivers.{times_at}
-use Rattle.net_builder.specs.Building.{Building}
-use Rattle.net_builder.specs.Finished.{LeadsTo, step_of, led_port, Finished}
-use Rattle.elab_finish.specs.declared.left.Left.{Left}
-use Rattle.elab_finish.specs.Endings.{CanFinish, IsEnding, port_of, registers_in}
-use Rattle.elab_finish.specs.Ordering.{AreSlots, AreFilled}
 use Rattle.elab_finish.proofs.Finishing.{bits_ports}
 use Rattle.elab_finish.proofs.Registering.{register_in, led_q, registers_filled}
 

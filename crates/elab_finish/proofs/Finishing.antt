@@ -1,17 +1,7 @@
 -- The netlist of a builder is a finished one of its design.
-use Rattle.std.proofs.Common.{◌≡◌, ◌↔◌, ℕ, List, [], ◌∷◌, map, Option, refl, sym, ◌∙◌, ap, subst, inl, inr}
-use Rattle.std.specs.List.{Contains}
-use Rattle.netlist_core.specs.declared.bit.Bit.{Bit}
-use Rattle.netlist_core.specs.declared.port.Register.{Register}
-use Rattle.netlist_core.specs.declared.raw.RawNetlist.{RawNetlist}
-use Rattle.netlist_core.specs.Runs.{bits_at}
-use Rattle.net_builder.specs.Building.{Building, signal, start_bits}
-use Rattle.net_builder.specs.Finished.{LeadsTo, step_of, led_register, Finished}
-use Rattle.flat_runs.specs.Designs.{Design}
-use Rattle.flat_runs.specs.Finishing.{IsFirstWith, ArePut, Finishes, IsWhole}
-use Rattle.flat_runs.proofs.Ends.{ready_finishes}
-use Rattle.elab_finish.specs.declared.left.Left.{Left}
-use Rattle.elab_finish.specs.Endings.{CanFinish, IsDesignOf, IsEnding, IsRegisterOf, AreRegistersOf, port_of, registers_in}
+use Rattle.elab_finish.proofs.Common.{◌≡◌, ◌↔◌, ℕ, List, [], ◌∷◌, map, Option, refl, sym, ◌∙◌, ap, subst, inl, inr, Contains, Bit, Register, RawNetlist, bits_at, Building, signal, start_bits, LeadsTo}
+use Rattle.elab_finish.proofs.Common.{step_of, led_register, Finished, Design, IsFirstWith, ArePut, Finishes, IsWhole, ready_finishes, Left, CanFinish, IsDesignOf, IsEnding, IsRegisterOf}
+use Rattle.elab_finish.proofs.Common.{AreRegistersOf, port_of, registers_in}
 
 pub bits_ports : (b : Building) (ks : List ℕ) → bits_at (map (port_of b) ks) ≡ map (signal b) ks
 bits_ports b [] = refl

@@ -1,16 +1,6 @@
 -- Numbers above the nets of signals, and nets that are joined to nets.
-use Rattle.std.proofs.Common.{◌≡◌, ℕ, zero, suc, ◌+◌, ◌<◌, ◌≤◌, Bool, true, false, List, [], ◌∷◌, length, get_or, slice_get, Option, Some, None, refl, ◌∙◌, ap, subst, inl, inr, arith}
-use Rattle.std.specs.Prelude.{slice_index_or}
-use Rattle.std.proofs.lemmas.Bool.{cases_lt}
-use Rattle.netlist_core.specs.declared.bit.Bit.{Bit}
-use Rattle.netlist_core.specs.declared.bit.Bit.TheVariants.{Fixed, Net}
-use Rattle.net_builder.specs.declared.steps.Step.TheVariants.{On}
-use Rattle.net_builder.specs.Building.{Building, signal}
-use Rattle.net_builder.specs.Written.{IsJoined, joint_of}
-use Rattle.net_builder.specs.Finished.{stepped, step_of, Follows, direct, further, IsOnLoop}
-use Rattle.net_builder.proofs.Writing.{joint_found}
-use Rattle.flat_runs.specs.Adding.{IsBit}
-use Rattle.elab_finish.specs.Loops.{next_of, IsLooped}
+use Rattle.elab_finish.proofs.Common.{◌≡◌, ℕ, zero, suc, ◌+◌, ◌<◌, ◌≤◌, true, List, [], ◌∷◌, length, get_or, slice_get, Some, None, refl, ◌∙◌, subst, inl, inr, arith, slice_index_or, cases_lt, Bit}
+use Rattle.elab_finish.proofs.Common.{Net, On, Building, signal, IsJoined, joint_of, joint_found, IsBit, next_of, stepped_on}
 
 -- the bit at a place of a list
 pub bit_there : {A : Type 0} → (xs : List A) (k : ℕ) (x y : A) → x ≡ get_or xs k x → k < length xs → slice_get xs k ≡ Some y → x ≡ y
@@ -47,23 +37,5 @@ bit_known b k i n at = in_list b.signals k i n at
 
 -- Nets that go on are joined.
 
-stepped_on : (o : Option Bit) (kept : Bool) (start : Option Bool) (m : ℕ) → stepped o kept start ≡ On m → o ≡ Some (Net m)
-stepped_on (Some (Fixed v)) kept start m e = absurd cc
-stepped_on (Some (Net k)) kept start m e = let same : k ≡ m = cc in ap (λ (x : ℕ). Some (Net x)) same
-stepped_on None true start m e = absurd cc
-stepped_on None false (Some v) m e = absurd cc
-stepped_on None false None m e = absurd cc
-
 pub joined_on : (b : Building) (n m : ℕ) → next_of b n ≡ On m → IsJoined b n
 joined_on b n m e = (Net m, joint_found b.joints n (Net m) (stepped_on (joint_of b.joints n) true None m e))
-
--- Steps that go on are the same whatever the inputs are.
-goes_same : (b : Building) (ports : List (List Bit)) (n m : ℕ) → step_of b ports n ≡ On m → next_of b n ≡ On m
-goes_same b ports n m e = ap (λ (o : Option Bit). stepped o true None) (stepped_on (joint_of b.joints n) _ _ m e)
-
-follows_same : (b : Building) (ports : List (List Bit)) (n k : ℕ) → Follows (step_of b ports) n k → Follows (next_of b) n k
-follows_same b ports n k (direct _ _ e) = direct n k (goes_same b ports n k e)
-follows_same b ports n k (further _ m _ e h) = further n m k (goes_same b ports n m e) (follows_same b ports m k h)
-
-pub loops_same : (b : Building) (ports : List (List Bit)) (n : ℕ) → IsOnLoop (step_of b ports) n → IsLooped b n
-loops_same b ports n loop = follows_same b ports n n loop

@@ -1,45 +1,20 @@
 -- Bits, ports and cells in which nets are replaced by the bits that they lead to.
-use Rattle.std.proofs.Common.{◌≡◌, ◌⊎◌, ℕ, zero, suc, ◌<◌, ◌≤◌, List, [], ◌∷◌, map, length, slice_get, refl, sym, ◌∙◌, ap, subst, inl, inr, arith}
-use Rattle.std.specs.List.{Contains}
-use Rattle.std.proofs.lemmas.Bool.{cases_lt}
-use Rattle.netlist_core.specs.declared.bit.Bit.{Bit}
-use Rattle.netlist_core.specs.declared.bit.Bit.TheVariants.{Fixed, Net}
-use Rattle.netlist_core.specs.declared.cell.Cell.{Cell}
-use Rattle.netlist_core.specs.declared.port.Register.{Register}
-use Rattle.netlist_core.specs.Runs.{input_ports, output_port}
+use Rattle.elab_finish.proofs.Common.{◌≡◌, ◌⊎◌, ℕ, zero, suc, ◌<◌, ◌≤◌, List, [], ◌∷◌, map, length, slice_get, refl, sym, ◌∙◌, ap, subst, inl, inr, arith, Contains, cases_lt, Bit, Fixed, Net, Cell}
+use Rattle.elab_finish.proofs.Common.{Register, input_ports, output_port, times, times_at, y_bits, cell_readers, AllWide, AllNets, AllPortsNets, AllCellsWide, HasBadShape, AllBelow, PortsBelow}
+use Rattle.elab_finish.proofs.Common.{AreCellsBelow, AreJointsBelow, AreRegistersBelow, AreFormed, all_led, led_cell, one_at-cases, times_get, input-led, length-led, output-led, has_none, has_cases}
 use Rattle.netlist_core.specs.Shapes.{HasShape, HasWidths, shape_of, widths}
-use Rattle.netlist_core.specs.Drivers.{times, times_at, y_bits, cell_readers}
-use Rattle.netlist_core.specs.Checked.{AllWide, AllNets, AllPortsNets, AllCellsWide, HasBadShape}
 use Rattle.net_builder.specs.declared.builder.Joint.{Joint}
-use Rattle.net_builder.specs.Building.{AllBelow, PortsBelow}
-use Rattle.flat_runs.specs.Parts.{AreCellsBelow, AreJointsBelow, AreRegistersBelow, AreFormed}
-use Rattle.flat_runs.specs.Finishing.{all_led, led_cell}
-use Rattle.flat_runs.proofs.Lists.{contains_none, contains_cases}
-use Rattle.flat_runs.proofs.Signals.{one_at-cases, times_get}
+use Rattle.flat_runs.proofs.Growing.{inputs_below}
 
 -- Bits that are led are as many.
 
-pub led_long : (to : ℕ → Bit) (bits : List Bit) → length (all_led to bits) ≡ length bits
-led_long to [] = refl
-led_long to (x ∷ bits) = let rest = led_long to bits in omega (arith, rest)
-
 pub led_widths : (to : ℕ → Bit) (ports : List (List Bit)) → widths (map (all_led to) ports) ≡ widths ports
 led_widths to [] = refl
-led_widths to (x ∷ ports) = let head : length (all_led to x) ≡ length x = led_long to x in let tail : widths (map (all_led to) ports) ≡ widths ports = led_widths to ports in rw (head, tail) refl
+led_widths to (x ∷ ports) = let head : length (all_led to x) ≡ length x = length-led to x in let tail : widths (map (all_led to) ports) ≡ widths ports = led_widths to ports in rw (head, tail) refl
 
 pub led_wide : (to : ℕ → Bit) (ports : List (List Bit)) → AllWide ports → AllWide (map (all_led to) ports)
 led_wide to [] h = tt
-led_wide to (x ∷ ports) h = (let e = led_long to x in omega (arith, e, h.0), let e = led_long to x in omega (arith, e, h.1), led_wide to ports h.2)
-
-pub led_output : (to : ℕ → Bit) (ports : List (List Bit)) → output_port (map (all_led to) ports) ≡ all_led to (output_port ports)
-led_output to [] = refl
-led_output to (y ∷ []) = refl
-led_output to (a ∷ b ∷ more) = led_output to (b ∷ more)
-
-pub led_inputs : (to : ℕ → Bit) (ports : List (List Bit)) → input_ports (map (all_led to) ports) ≡ map (all_led to) (input_ports ports)
-led_inputs to [] = refl
-led_inputs to (y ∷ []) = refl
-led_inputs to (a ∷ b ∷ more) = ap (λ (rest : List (List Bit)). all_led to a ∷ rest) (led_inputs to (b ∷ more))
+led_wide to (x ∷ ports) h = (let e = length-led to x in omega (arith, e, h.0), let e = length-led to x in omega (arith, e, h.1), led_wide to ports h.2)
 
 -- nets that lead to themselves
 pub led_same : (to : ℕ → Bit) (bits : List Bit) → AllNets bits → ((n : ℕ) → 1 ≤ times n bits → to n ≡ Net n) → all_led to bits ≡ bits
@@ -53,7 +28,7 @@ led_same to (Net n ∷ bits) nets h =
 pub led_ys : (to : ℕ → Bit) (cells : List Cell) → AreFormed cells → ((n : ℕ) → 1 ≤ times_at n (y_bits cells) → to n ≡ Net n) → y_bits (map (led_cell to) cells) ≡ y_bits cells
 led_ys to [] formed h = refl
 led_ys to (cell ∷ cells) formed h =
-    let head : output_port (map (all_led to) cell.ports) ≡ output_port cell.ports = led_output to cell.ports ∙ led_same to (output_port cell.ports) formed.2 (λ n some. h n (omega (arith, some))) in
+    let head : output_port (map (all_led to) cell.ports) ≡ output_port cell.ports = output-led to cell.ports ∙ led_same to (output_port cell.ports) formed.2 (λ n some. h n (omega (arith, some))) in
     let tail : y_bits (map (led_cell to) cells) ≡ y_bits cells = led_ys to cells formed.3 (λ n some. h n (omega (arith, some))) in
     rw (head, tail) refl
 
@@ -95,28 +70,23 @@ led_port_net to limit m (x ∷ ports) below some = elim (cases_lt (times m (all_
   | inr here ↦ led_net to limit m x below.0 here
 ]
 
-pub inputs_below : (limit : ℕ) (ports : List (List Bit)) → PortsBelow limit ports → PortsBelow limit (input_ports ports)
-inputs_below limit [] h = tt
-inputs_below limit (y ∷ []) h = tt
-inputs_below limit (a ∷ b ∷ more) h = (h.0, inputs_below limit (b ∷ more) h.1)
-
 pub cells_net : (to : ℕ → Bit) (limit m : ℕ) (cells : List Cell) → AreCellsBelow limit cells → 1 ≤ cell_readers (map (led_cell to) cells) m → (n : ℕ) × (n < limit) × (to n ≡ Net m)
 cells_net to limit m [] below some = absurd (omega (arith, some))
 cells_net to limit m (cell ∷ cells) below some = elim (cases_lt (times_at m (input_ports (map (all_led to) cell.ports))) 1) [
   | inl none ↦ cells_net to limit m cells below.1 (omega (arith, some, none))
-  | inr here ↦ led_port_net to limit m (input_ports cell.ports) (inputs_below limit cell.ports below.0) (subst (λ (ports : List (List Bit)). 1 ≤ times_at m ports) (led_inputs to cell.ports) here)
+  | inr here ↦ led_port_net to limit m (input_ports cell.ports) (inputs_below limit cell.ports below.0) (subst (λ (ports : List (List Bit)). 1 ≤ times_at m ports) (input-led to cell.ports) here)
 ]
 
 pub register_below : (limit : ℕ) (rs : List Register) (r : Register) → AreRegistersBelow limit rs → Contains rs r → AllBelow limit r.d × (length r.d ≡ length r.q)
-register_below limit [] r below has = absurd (contains_none r has)
-register_below limit (x ∷ rs) r below has = elim (contains_cases rs x r has) [
+register_below limit [] r below has = absurd (has_none r has)
+register_below limit (x ∷ rs) r below has = elim (has_cases rs x r has) [
   | inl same ↦ subst (λ (y : Register). AllBelow limit y.d × (length y.d ≡ length y.q)) same (below.0, below.1)
   | inr later ↦ register_below limit rs r below.2 later
 ]
 
 pub joint_below : (limit : ℕ) (joints : List Joint) (j : Joint) → AreJointsBelow limit joints → Contains joints j → AllBelow limit (j.bit ∷ [])
-joint_below limit [] j below has = absurd (contains_none j has)
-joint_below limit (x ∷ joints) j below has = elim (contains_cases joints x j has) [
+joint_below limit [] j below has = absurd (has_none j has)
+joint_below limit (x ∷ joints) j below has = elim (has_cases joints x j has) [
   | inl same ↦ subst (λ (y : Joint). AllBelow limit (y.bit ∷ [])) same below.1
   | inr later ↦ joint_below limit joints j below.2 later
 ]

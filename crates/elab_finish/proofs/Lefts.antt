@@ -1,52 +1,10 @@
 -- The first left side that writes a net on a loop, and why there is no netlist.
-use Rattle.std.proofs.Common.{◌≡◌, ℕ, zero, suc, ◌+◌, ◌<◌, ◌≤◌, List, [], ◌∷◌, length, get_or, slice_get, Option, Some, refl, sym, ◌∙◌, ap, subst, inl, inr, arith}
-use Rattle.std.proofs.lemmas.Bool.{cases_lt}
-use Rattle.netlist_core.specs.declared.bit.Bit.{Bit}
-use Rattle.netlist_core.specs.declared.bit.Bit.TheVariants.{Net}
-use Rattle.netlist_core.specs.declared.raw.RawNetlist.{RawNetlist}
-use Rattle.net_builder.specs.Building.{Building}
-use Rattle.net_builder.proofs.Following.{loop_goes}
-use Rattle.flat_runs.proofs.Lists.{contains_get}
-use Rattle.elab_finish.specs.declared.error.DesignError.{DesignError}
+use Rattle.elab_finish.proofs.Common.{◌≡◌, ℕ, zero, suc, ◌+◌, ◌<◌, ◌≤◌, List, [], ◌∷◌, length, get_or, slice_get, Option, Some, refl, sym, subst, inl, inr, arith, cases_lt, RawNetlist, Building}
+use Rattle.elab_finish.proofs.Common.{loop_goes, contains_get, DesignError, Left, next_of, IsLoopFree, IsLeftLooped, IsFirstLooped, AreCovered, JoinedAreCovered, IsEnding, IsOver, IsRefused}
 use Rattle.elab_finish.specs.declared.error.DesignError.TheVariants.{Loop, TooMany, Twice, Memory}
-use Rattle.elab_finish.specs.declared.left.Left.{Left}
-use Rattle.elab_finish.specs.Loops.{next_of, IsLooped, IsLoopFree, IsLeftLooped, IsFirstLooped, AreCovered}
-use Rattle.elab_finish.specs.Laws.{JoinedAreCovered}
-use Rattle.elab_finish.specs.Searching.{HasNet}
-use Rattle.elab_finish.specs.Endings.{IsEnding}
-use Rattle.elab_finish.specs.Refusals.{IsOver, IsRefused}
 use Rattle.elab_finish.proofs.Joined.{bit_there, joined_on}
 
 -- Bits, one after the other.
-
--- none of the bits from `first` on, before k, is on a loop
-abbrev pub NoneBefore : Building → List Bit → ℕ → ℕ → Type 0
-NoneBefore b bits first k = (i n : ℕ) → first ≤ i → i < k → slice_get bits i ≡ Some (Net n) → IsLooped b n → ⊥
-
-pub none_later : (b : Building) (bits : List Bit) (first k : ℕ) (x : Bit) → x ≡ get_or bits k x → k < length bits → NoneBefore b bits first k → ((n : ℕ) × (x ≡ Net n) × IsLooped b n → ⊥) → NoneBefore b bits first (k + 1)
-none_later b bits first k x is less before not i n from small at loop = elim (cases_lt i k) [
-  | inl earlier ↦ before i n from earlier at loop
-  | inr over ↦ (let same : i ≡ k = omega (arith, small, over) in not (n, bit_there bits k x (Net n) is less (subst (λ (j : ℕ). slice_get bits j ≡ Some (Net n)) same at), loop))
-]
-
-at_place : {A : Type 0} → (xs : List A) (k : ℕ) (x : A) → x ≡ get_or xs k x → k < length xs → slice_get xs k ≡ Some x
-at_place [] k x is less = absurd (omega (arith, less))
-at_place (y ∷ xs) zero x is less = ap Some (sym is)
-at_place (y ∷ xs) (suc k) x is less = at_place xs k x is (omega (arith, less))
-
-pub net_found : (b : Building) (bits : List Bit) (first end k : ℕ) (x : Bit) → x ≡ get_or bits k x → k < length bits → first ≤ k → k < end → (n : ℕ) × (x ≡ Net n) × IsLooped b n → (n : ℕ) × HasNet bits first end n × IsLooped b n
-net_found b bits first end k x is less from small t = (t.0, (k, from, small, at_place bits k x is less ∙ ap Some t.1), t.2)
-
-pub none_found : (b : Building) (bits : List Bit) (first end k : ℕ) → NoneBefore b bits first k → (k < end → length bits ≤ k) → (n : ℕ) × HasNet bits first end n × IsLooped b n → ⊥
-none_found b bits first end k none over t = elim (cases_lt t.1.0 k) [
-  | inl small ↦ none t.1.0 t.0 t.1.1 small t.1.3 t.2
-  | inr late ↦ (let within = inside bits t.1.0 (Net t.0) t.1.3 in let last = t.1.2 in let long = over (omega (arith, late, last)) in omega (arith, late, within, long))
-]
-  where
-    inside : (bits : List Bit) (i : ℕ) (x : Bit) → slice_get bits i ≡ Some x → i < length bits
-    inside [] i x e = absurd cc
-    inside (y ∷ more) zero x e = omega arith
-    inside (y ∷ more) (suc i) x e = let less = inside more i x e in omega (arith, less)
 
 -- Left sides, one after the other.
 

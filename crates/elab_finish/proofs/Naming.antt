@@ -1,20 +1,15 @@
 -- Registers, one after the other, by their names.
-use Rattle.std.proofs.Common.{◌≡◌, ◌⊎◌, ℕ, zero, suc, ◌+◌, ◌<◌, ◌≤◌, Bool, true, false, cond, List, [], ◌∷◌, ◌++◌, map, take, length, get_or, slice_get, Option, Some, None, refl, sym, ◌∙◌, ap, subst, inl, inr, arith, add-one}
-use Rattle.std.specs.Prelude.{MatchOption}
-use Rattle.std.specs.List.{Contains}
+use Rattle.elab_finish.proofs.Common.{◌≡◌, ◌⊎◌, ℕ, zero, suc, ◌+◌, ◌<◌, ◌≤◌, Bool, true, false, cond, List, [], ◌∷◌, ◌++◌, map, take, length, get_or, slice_get, Option, Some, None, refl, sym, ◌∙◌, ap}
+use Rattle.elab_finish.proofs.Common.{subst, inl, inr, arith, add-one, MatchOption, Contains, cases_lt, false≢true, slice_get_within, Span, Register, AreNamedApart, HasMet, IsAgainAt, IsMet}
+use Rattle.elab_finish.proofs.Common.{IsNamedAgain, IsRegisterAt, register_name}
 use Rattle.std.specs.BTreeSet.{BTreeSet, UpdatesBy, contains_text}
 use Rattle.std.specs.String.{string_bytes, string_cmp}
 use Rattle.std.specs.Cmp.Lexicographic.{bytes_decides}
 use Rattle.std.specs.Str.{bytes_eq}
 use Rattle.std.specs.declared.string.String.{String}
 use Rattle.std.specs.declared.alloc.Global.{Global}
-use Rattle.std.proofs.lemmas.Bool.{cases_lt, false≢true}
 use Rattle.std.proofs.lemmas.List.Elements.{Contains-append_left, Contains-push, Contains-push_cases}
 use Rattle.std.proofs.lemmas.Map.Text.{btree_set_updates_text}
-use Rattle.std.proofs.lemmas.Option.{slice_get_within}
-use Rattle.mcy_base.specs.declared.span.Span.{Span}
-use Rattle.netlist_core.specs.declared.port.Register.{Register}
-use Rattle.elab_finish.specs.Names.{AreNamedApart, HasMet, IsAgainAt, IsMet, IsNamedAgain, IsRegisterAt, register_name}
 use Rattle.elab_finish.proofs.Joined.{bit_there}
 use Rattle.elab_finish.proofs.Orders.{register_there}
 

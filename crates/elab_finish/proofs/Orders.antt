@@ -1,26 +1,10 @@
 -- How registers are put in order.
-use Rattle.std.proofs.Common.{◌≡◌, ◌≢◌, ◌⊎◌, ℕ, zero, suc, ◌+◌, ◌<◌, ◌≤◌, Bool, true, false, List, [], ◌∷◌, ◌++◌, length, take, get_or, set, slice_get, Option, Some, None, refl, sym, ◌∙◌, ap, subst, inl, inr, arith, add-one}
-use Rattle.std.specs.Prelude.{◌↔◌, IsTrue, MatchOption}
-use Rattle.std.specs.List.{Contains}
-use Rattle.std.proofs.lemmas.Bool.{false≢true}
-use Rattle.mcy_base.specs.declared.span.Span.{Span}
+use Rattle.elab_finish.proofs.Common.{◌≡◌, ◌≢◌, ◌⊎◌, ℕ, zero, suc, ◌+◌, ◌<◌, ◌≤◌, Bool, true, false, List, [], ◌∷◌, ◌++◌, length, take, get_or, set, slice_get, Option, Some, None, refl, sym, ◌∙◌, ap}
+use Rattle.elab_finish.proofs.Common.{subst, inl, inr, arith, add-one, IsTrue, MatchOption, Contains, false≢true, Span, cases_lt, eqb_tells, get_or-set_same, get_or-set_other, append-nil, Bit, Fixed}
+use Rattle.elab_finish.proofs.Common.{Net, Register, q_bits, times_at, Building, IsJoined, IsStored, is_stored, stored_there, stored_told, times_get, AreKnown, is_register, registers_in, head_in}
+use Rattle.elab_finish.proofs.Common.{with_head, after_lowest, AreSlots, AddsSlot, IsFilled, AreFilled}
+use Rattle.std.specs.Prelude.{◌↔◌}
 use Rattle.mcy_base.specs.declared.word.Word.{Word}
-use Rattle.std.proofs.lemmas.Bool.{cases_lt}
-use Rattle.std.proofs.lemmas.Bool.Decides.{eqb_tells}
-use Rattle.std.proofs.lemmas.List.{get_or-set_same, get_or-set_other}
-use Rattle.std.proofs.lemmas.List.{append-nil}
-use Rattle.netlist_core.specs.declared.bit.Bit.{Bit}
-use Rattle.netlist_core.specs.declared.bit.Bit.TheVariants.{Fixed, Net}
-use Rattle.netlist_core.specs.declared.port.Register.{Register}
-use Rattle.netlist_core.specs.Runs.{q_bits, output_port}
-use Rattle.netlist_core.specs.Drivers.{times_at}
-use Rattle.net_builder.specs.Building.{Building}
-use Rattle.net_builder.specs.Written.{IsJoined, IsStored, is_stored}
-use Rattle.net_builder.proofs.Writing.{stored_there, stored_told}
-use Rattle.flat_runs.proofs.Signals.{times_get}
-use Rattle.elab_finish.specs.Endings.{AreKnown, is_register, registers_in}
-use Rattle.elab_finish.specs.Heads.{head_in, with_head, after_lowest}
-use Rattle.elab_finish.specs.Ordering.{AreSlots, AddsSlot, IsFilled, AreFilled}
 
 pub known_at : (b : Building) (ks : List ℕ) (k x : ℕ) → x ≡ get_or ks k x → AreKnown b ks → k < length ks → x < length b.signals
 known_at b [] k x is known less = absurd (omega (arith, less))
@@ -170,11 +154,3 @@ stored_is b n o written tells is told = by written (is_stored b.registers n) ref
     by true false e t = elim (t.0 refl) [ inl j ↦ absurd (free j) | inr s ↦ absurd (false≢true (sym e ∙ stored_told b.registers n s.0 s.1 s.2)) ]
     by false true e t = absurd (false≢true (t.1 (inr (stored_there b.registers n e))))
     by false false e t = refl
-
--- the last of some ports
-pub output_last : (ports : List (List Bit)) (k : ℕ) (y : List Bit) → suc k ≡ length ports → y ≡ get_or ports k y → y ≡ output_port ports
-output_last [] k y e is = absurd (omega (arith, e))
-output_last (x ∷ []) zero y e is = is
-output_last (x ∷ []) (suc k) y e is = absurd (omega (arith, e))
-output_last (a ∷ b ∷ more) zero y e is = absurd (omega (arith, e))
-output_last (a ∷ b ∷ more) (suc k) y e is = output_last (b ∷ more) k y (omega (arith, e)) is

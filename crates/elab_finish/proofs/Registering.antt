@@ -1,31 +1,17 @@
 -- Registers of a builder by their signals, and in the order of declaration.
-use Rattle.std.proofs.Common.{◌≡◌, ◌⊎◌, ℕ, zero, suc, ◌<◌, ◌≤◌, Bool, true, false, List, [], ◌∷◌, map, length, slice_get, Option, Some, None, refl, sym, ◌∙◌, ap, subst, inl, inr, arith}
-use Rattle.std.specs.List.{Contains}
-use Rattle.std.proofs.lemmas.Bool.{false≢true}
-use Rattle.netlist_core.specs.declared.bit.Bit.{Bit}
-use Rattle.netlist_core.specs.declared.bit.Bit.TheVariants.{Fixed, Net}
-use Rattle.netlist_core.specs.declared.port.Register.{Register}
-use Rattle.netlist_core.specs.Runs.{q_bits}
-use Rattle.netlist_core.specs.Drivers.{times_at}
-use Rattle.net_builder.specs.Building.{Building, signal}
-use Rattle.net_builder.specs.Finished.{led_register}
-use Rattle.net_builder.proofs.Writing.{stored_there, stored_told}
+use Rattle.elab_finish.proofs.Common.{◌≡◌, ◌⊎◌, ℕ, zero, suc, ◌<◌, ◌≤◌, Bool, true, false, List, [], ◌∷◌, map, length, slice_get, Option, Some, None, refl, sym, ◌∙◌, ap, subst, inl, inr, arith}
+use Rattle.elab_finish.proofs.Common.{Contains, false≢true, Bit, Fixed, Net, Register, q_bits, times_at, Building, signal, led_register, stored_there, stored_told, has_first, has_more, has_none}
+use Rattle.elab_finish.proofs.Common.{has_cases, HasOwnNets, IsFirstWith, get_contains, contains_get, times_get, are_apart, net_of, AreKnown, is_register, is_stored_bit, registers_in, IsRegisterOf}
+use Rattle.elab_finish.proofs.Common.{AreRegistersOf, RegistersHaveSignals, SignalsHaveRegisters, IsSlot, AreSlots, IsFilled, AreFilled}
 use Rattle.flat_runs.specs.Meanings.{NoneTwice}
-use Rattle.flat_runs.specs.Adding.{HasOwnNets}
 use Rattle.flat_runs.specs.Writing.{HasOneWriter}
-use Rattle.flat_runs.specs.Finishing.{IsFirstWith}
-use Rattle.flat_runs.proofs.Lists.{contains_first, contains_more, contains_none, contains_cases, get_contains, contains_get}
-use Rattle.flat_runs.proofs.Signals.{times_get, are_apart, net_of}
 use Rattle.flat_runs.proofs.Writing.{stored_net}
-use Rattle.elab_finish.specs.Endings.{AreKnown, is_register, is_stored_bit, registers_in, IsRegisterOf, AreRegistersOf}
-use Rattle.elab_finish.specs.Laws.{RegistersHaveSignals, SignalsHaveRegisters}
-use Rattle.elab_finish.specs.Ordering.{IsSlot, AreSlots, IsFilled, AreFilled}
 
 -- Lists of numbers.
 
 pub known_in : (b : Building) (ks : List ℕ) (k : ℕ) → AreKnown b ks → Contains ks k → k < length b.signals
-known_in b [] k known has = absurd (contains_none k has)
-known_in b (j ∷ ks) k known has = elim (contains_cases ks j k has) [
+known_in b [] k known has = absurd (has_none k has)
+known_in b (j ∷ ks) k known has = elim (has_cases ks j k has) [
   | inl same ↦ subst (λ (x : ℕ). x < length b.signals) same known.0
   | inr later ↦ known_in b ks k known.1 later
 ]
@@ -36,25 +22,25 @@ picked b k ks true e = inr (rw e refl, refl)
 picked b k ks false e = inl (rw e refl, refl)
 
 pub register_in : (b : Building) (ks : List ℕ) (k : ℕ) → Contains (registers_in b ks) k → Contains ks k × (is_register b k ≡ true)
-register_in b [] k has = absurd (contains_none k has)
+register_in b [] k has = absurd (has_none k has)
 register_in b (j ∷ ks) k has = elim (picked b j ks (is_register b j) refl) [
-  | inl t ↦ let r = register_in b ks k (subst (λ (l : List ℕ). Contains l k) t.0 has) in (contains_more ks j k r.0, r.1)
-  | inr t ↦ elim (contains_cases (registers_in b ks) j k (subst (λ (l : List ℕ). Contains l k) t.0 has)) [
-    | inl same ↦ (subst (λ (x : ℕ). Contains (j ∷ ks) x) same (contains_first ks j), subst (λ (x : ℕ). is_register b x ≡ true) same t.1)
-    | inr later ↦ let r = register_in b ks k later in (contains_more ks j k r.0, r.1)
+  | inl t ↦ let r = register_in b ks k (subst (λ (l : List ℕ). Contains l k) t.0 has) in (has_more ks j k r.0, r.1)
+  | inr t ↦ elim (has_cases (registers_in b ks) j k (subst (λ (l : List ℕ). Contains l k) t.0 has)) [
+    | inl same ↦ (subst (λ (x : ℕ). Contains (j ∷ ks) x) same (has_first ks j), subst (λ (x : ℕ). is_register b x ≡ true) same t.1)
+    | inr later ↦ let r = register_in b ks k later in (has_more ks j k r.0, r.1)
   ]
 ]
 
 pub in_registers : (b : Building) (ks : List ℕ) (k : ℕ) → Contains ks k → is_register b k ≡ true → Contains (registers_in b ks) k
-in_registers b [] k has is = absurd (contains_none k has)
+in_registers b [] k has is = absurd (has_none k has)
 in_registers b (j ∷ ks) k has is = elim (picked b j ks (is_register b j) refl) [
-  | inl t ↦ elim (contains_cases ks j k has) [
+  | inl t ↦ elim (has_cases ks j k has) [
     | inl same ↦ absurd (false≢true (sym t.1 ∙ ap (is_register b) same ∙ is))
     | inr later ↦ subst (λ (l : List ℕ). Contains l k) (sym t.0) (in_registers b ks k later is)
   ]
-  | inr t ↦ subst (λ (l : List ℕ). Contains l k) (sym t.0) (elim (contains_cases ks j k has) [
-    | inl same ↦ subst (λ (x : ℕ). Contains (j ∷ registers_in b ks) x) same (contains_first (registers_in b ks) j)
-    | inr later ↦ contains_more (registers_in b ks) j k (in_registers b ks k later is)
+  | inr t ↦ subst (λ (l : List ℕ). Contains l k) (sym t.0) (elim (has_cases ks j k has) [
+    | inl same ↦ subst (λ (x : ℕ). Contains (j ∷ registers_in b ks) x) same (has_first (registers_in b ks) j)
+    | inr later ↦ has_more (registers_in b ks) j k (in_registers b ks k later is)
   ])
 ]
 
@@ -140,8 +126,8 @@ registers_filled b ins own writers to led is [] (x ∷ slots) rs are s f = absur
 registers_filled b ins own writers to led is (k ∷ ks) [] rs are s f = absurd s
 registers_filled b ins own writers to led is (k ∷ ks) (x ∷ slots) [] are s f = absurd f
 registers_filled b ins own writers to led is (k ∷ ks) (x ∷ slots) (r ∷ rs) are s f = (
-  register_filled b ins own writers to k x r (are k (contains_first ks k)) s.0 (subst (λ (l : List Register). IsFilled l x r) is f.0),
-  registers_filled b ins own writers to led is ks slots rs (λ j has. are j (contains_more ks k j has)) s.1 f.1,
+  register_filled b ins own writers to k x r (are k (has_first ks k)) s.0 (subst (λ (l : List Register). IsFilled l x r) is f.0),
+  registers_filled b ins own writers to led is ks slots rs (λ j has. are j (has_more ks k j has)) s.1 f.1,
 )
 
 -- Registers that are those of some signals.
@@ -150,19 +136,19 @@ pub registers_have : RegistersHaveSignals
 registers_have b ks is r has = within b b.registers ks is r has
   where
     within : (b : Building) (rs : List Register) (ks : List ℕ) → q_bits rs ≡ map (signal b) ks → (r : Register) → Contains rs r → (k : ℕ) × Contains ks k × (r.q ≡ signal b k)
-    within b [] ks is r has = absurd (contains_none r has)
+    within b [] ks is r has = absurd (has_none r has)
     within b (s ∷ rs) [] is r has = absurd cc
     within b (s ∷ rs) (k ∷ ks) is r has =
         let first : s.q ≡ signal b k = cc in
         let rest : q_bits rs ≡ map (signal b) ks = cc in
-        elim (contains_cases rs s r has) [
-          | inl same ↦ (k, contains_first ks k, subst (λ (x : Register). x.q ≡ signal b k) same first)
-          | inr later ↦ let t = within b rs ks rest r later in (t.0, contains_more ks k t.0 t.1, t.2)
+        elim (has_cases rs s r has) [
+          | inl same ↦ (k, has_first ks k, subst (λ (x : Register). x.q ≡ signal b k) same first)
+          | inr later ↦ let t = within b rs ks rest r later in (t.0, has_more ks k t.0 t.1, t.2)
         ]
 
 signal_times : (b : Building) (ks : List ℕ) (k n : ℕ) → Contains ks k → slice_get (signal b k) 0 ≡ Some (Net n) → 1 ≤ times_at n (map (signal b) ks)
-signal_times b [] k n has low = absurd (contains_none k has)
-signal_times b (j ∷ ks) k n has low = elim (contains_cases ks j k has) [
+signal_times b [] k n has low = absurd (has_none k has)
+signal_times b (j ∷ ks) k n has low = elim (has_cases ks j k has) [
   | inl same ↦ (let one = times_get (signal b j) 0 n (ap (λ (x : ℕ). slice_get (signal b x) 0) same ∙ low) in omega (arith, one))
   | inr later ↦ (let rest = signal_times b ks k n later low in omega (arith, rest))
 ]

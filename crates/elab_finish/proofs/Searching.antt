@@ -1,14 +1,9 @@
 -- What is known of nets while loops of joints are looked for.
-use Rattle.std.proofs.Common.{◌≡◌, ◌≢◌, ◌⊎◌, ℕ, zero, suc, ◌+◌, ◌<◌, ◌≤◌, List, [], ◌∷◌, length, set, replicate, refl, sym, ◌∙◌, ap, subst, inl, inr, arith}
-use Rattle.std.proofs.lemmas.Bool.Decides.{eqb_tells}
-use Rattle.std.proofs.lemmas.List.{get_or-set_same, get_or-set_other, length-set}
+use Rattle.elab_finish.proofs.Common.{◌≡◌, ◌≢◌, ◌⊎◌, ℕ, zero, suc, ◌+◌, ◌<◌, ◌≤◌, List, [], ◌∷◌, length, set, replicate, refl, sym, ◌∙◌, ap, subst, inl, inr, arith, eqb_tells, get_or-set_same}
+use Rattle.elab_finish.proofs.Common.{get_or-set_other, length-set, On, Follows, direct, IsOnLoop, trans, loop_goes, loop_back, closed_follows, Unknown, Free, From, Looped, mark_in, tally}
+use Rattle.elab_finish.proofs.Common.{one_unknown, one_open, IsSettled, LeadsOn, IsWalked, IsRounded}
 use Rattle.net_builder.specs.declared.steps.Step.{Step}
-use Rattle.net_builder.specs.declared.steps.Step.TheVariants.{On}
-use Rattle.net_builder.specs.Finished.{Follows, direct, IsOnLoop}
-use Rattle.net_builder.proofs.Following.{trans, loop_goes, loop_back, closed_follows}
 use Rattle.elab_finish.specs.declared.search.Mark.{Mark}
-use Rattle.elab_finish.specs.declared.search.Mark.TheVariants.{Unknown, Free, From, Looped}
-use Rattle.elab_finish.specs.Searching.{mark_in, tally, one_unknown, one_open, IsSettled, LeadsOn, IsWalked, IsRounded}
 
 -- Marks in a table.
 

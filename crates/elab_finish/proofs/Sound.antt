@@ -1,34 +1,17 @@
 -- The netlist of a builder is refused for nothing but limits and loops.
-use Rattle.std.proofs.Common.{◌≡◌, ℕ, zero, suc, ◌<◌, ◌≤◌, List, [], ◌∷◌, map, length, slice_get, Option, Some, refl, sym, ◌∙◌, ap, subst, inl, inr, arith}
-use Rattle.std.specs.List.{Contains}
-use Rattle.std.proofs.lemmas.Bool.{cases_lt}
-use Rattle.netlist_core.specs.declared.bit.Bit.{Bit}
-use Rattle.netlist_core.specs.declared.bit.Bit.TheVariants.{Net}
-use Rattle.netlist_core.specs.declared.cell.Cell.{Cell}
-use Rattle.netlist_core.specs.declared.port.Register.{Register}
-use Rattle.netlist_core.specs.declared.raw.RawNetlist.{RawNetlist}
-use Rattle.netlist_core.specs.Runs.{bits_at, q_bits, d_bits}
-use Rattle.netlist_core.specs.Drivers.{times, times_at, y_bits, drivers, cell_readers, HasTwoDrivers, IsUndriven}
+use Rattle.elab_finish.proofs.Common.{◌≡◌, ℕ, zero, suc, ◌<◌, ◌≤◌, List, [], ◌∷◌, map, length, slice_get, Option, Some, refl, sym, ◌∙◌, ap, subst, inl, inr, arith, Contains, cases_lt, Bit, Net, Cell}
+use Rattle.elab_finish.proofs.Common.{Register, RawNetlist, bits_at, q_bits, d_bits, times, times_at, y_bits, drivers, cell_readers, HasTwoDrivers, IsUndriven, AllWide, AllPortsNets, AllRegistersFit}
+use Rattle.elab_finish.proofs.Common.{AllCellsWide, IsFormed, HasBadShape, Building, PortsBelow, signal, IsStored, Design, IsBit, AreRegistersBelow, owners, no_signal, of_input, of_register}
+use Rattle.elab_finish.proofs.Common.{unwritten, to_constant, to_net, all_led, led_cell, IsRegister, AreRegisters, Finishes, get_contains, contains_get, bits_in, times_get, times_in, nets_in}
+use Rattle.elab_finish.proofs.Common.{ports_in, Left, OnlyLoops, IsWithin, AreKnown, CanFinish, IsEnding, IsRegisterOf, AreRegistersOf, registers_in, has_none, has_cases, length-led}
 use Rattle.mcy_base.specs.declared.kind.Kind.TheVariants as k
 use Rattle.netlist_core.specs.declared.netlist.NetError.TheVariants as e
-use Rattle.netlist_core.specs.Checked.{AllWide, AllPortsNets, AllRegistersFit, AllCellsWide, IsFormed, HasBadShape}
-use Rattle.net_builder.specs.Building.{Building, PortsBelow, signal}
-use Rattle.net_builder.specs.Written.{IsStored}
-use Rattle.flat_runs.specs.Designs.{Design}
-use Rattle.flat_runs.specs.Adding.{IsBit}
-use Rattle.flat_runs.specs.Parts.{AreRegistersBelow, owners}
-use Rattle.flat_runs.specs.Finishing.{LeadsTo, no_signal, of_input, of_register, unwritten, to_constant, to_net, all_led, led_cell, IsRegister, AreRegisters, Finishes}
-use Rattle.flat_runs.proofs.Lists.{contains_none, contains_cases, get_contains, contains_get}
-use Rattle.flat_runs.proofs.Signals.{bits_in, times_get, times_in, nets_in, ports_in}
+use Rattle.flat_runs.specs.Finishing.{LeadsTo}
 use Rattle.flat_runs.proofs.Registers.{first_is, stored_q}
 use Rattle.flat_runs.proofs.Writing.{net_in, signal_net, signals_once}
-use Rattle.elab_finish.specs.declared.left.Left.{Left}
-use Rattle.elab_finish.specs.Checking.{OnlyLoops}
-use Rattle.elab_finish.specs.Refusals.{IsWithin}
-use Rattle.elab_finish.specs.Endings.{AreKnown, CanFinish, IsEnding, IsRegisterOf, AreRegistersOf, registers_in}
 use Rattle.elab_finish.proofs.Finishing.{own_design, is_own, ending_finishes}
 use Rattle.elab_finish.proofs.Registering.{known_in, register_in, in_registers, registers_once, register_of, is_its}
-use Rattle.elab_finish.proofs.Leading.{led_long, led_wide, led_ys, led_cells_wide, none_misshapen, ys_nets, led_net, led_port_net, cells_net, register_below, joint_below, length_map}
+use Rattle.elab_finish.proofs.Leading.{led_wide, led_ys, led_cells_wide, none_misshapen, ys_nets, led_net, led_port_net, cells_net, register_below, joint_below, length_map}
 
 -- the ports of signals
 signals_wide : (b : Building) → ((k : ℕ) → k < length b.signals → 1 ≤ length (signal b k)) → ((k : ℕ) → length (signal b k) ≤ 128) → (ks : List ℕ) → AreKnown b ks → AllWide (map (signal b) ks)
@@ -48,8 +31,8 @@ shown_bits b to [] = refl
 shown_bits b to (k ∷ ks) = ap (λ (rest : List (List Bit)). all_led to (signal b k) ∷ rest) (shown_bits b to ks)
 
 signal_there : (b : Building) (ks : List ℕ) (k i n : ℕ) → Contains ks k → IsBit b k i n → 1 ≤ times_at n (map (signal b) ks)
-signal_there b [] k i n has at = absurd (contains_none k has)
-signal_there b (j ∷ ks) k i n has at = elim (contains_cases ks j k has) [
+signal_there b [] k i n has at = absurd (has_none k has)
+signal_there b (j ∷ ks) k i n has at = elim (has_cases ks j k has) [
   | inl same ↦ (let one = times_get (signal b j) i n (ap (λ (x : ℕ). slice_get (signal b x) i) same ∙ at) in omega (arith, one))
   | inr later ↦ (let rest = signal_there b ks k i n later at in omega (arith, rest))
 ]
@@ -81,7 +64,7 @@ registers_fit b to below (k ∷ ks) (r ∷ rs) are =
     let x : IsRegisterOf b to k r = are.0 in
     let first = first_is (signal b k) b.registers x.built x.first in
     let low = register_below b.nets b.registers x.built below first.0 in (
-      ap length x.d ∙ led_long to x.built.d ∙ low.1 ∙ ap length first.1 ∙ sym x.width,
+      ap length x.d ∙ length-led to x.built.d ∙ low.1 ∙ ap length first.1 ∙ sym x.width,
       ap length x.q ∙ sym x.width,
       registers_fit b to below ks rs are.1,
     )

@@ -6,6 +6,8 @@ use Rattle.netlist_core.specs.declared.netlist.NetError.TheVariants.{Loop, Memor
 use Rattle.netlist_core.specs.declared.raw.RawNetlist.{RawNetlist}
 use Rattle.netlist_core.specs.Checked.{IsRefused}
 
+-- For proofs alone.
+
 abbrev pub span_of : Cell → Span
 span_of cell = cell.span
 

@@ -4,6 +4,8 @@ use Rattle.netlist_core.specs.declared.bit.Bit.{Bit}
 use Rattle.netlist_core.specs.declared.bit.Bit.TheVariants.{Fixed, Net}
 use Rattle.netlist_core.specs.declared.port.Register.{Register}
 
+-- For proofs alone.
+
 -- the place of the register of which a net is the lowest bit, by a table
 abbrev pub head_in : List (Option ℕ) → ℕ → Option ℕ
 head_in table n = slice_index_or table n None

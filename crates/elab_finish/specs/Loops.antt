@@ -16,9 +16,6 @@ next_of b n = stepped (joint_of b.joints n) true None
 abbrev pub IsLooped : Building → ℕ → Type 0
 IsLooped b n = IsOnLoop (next_of b) n
 
-abbrev pub IsLoopFree : Building → Type 0
-IsLoopFree b = (n : ℕ) → ¬ IsLooped b n
-
 -- the net is one of so many bits of a signal from bit `first` on
 abbrev pub IsAmong : Building → ℕ → ℕ → ℕ → ℕ → Type 0
 IsAmong b signal first count n = (i : ℕ) × (first ≤ i) × (i < first + count) × IsBit b signal i n
@@ -39,3 +36,8 @@ IsFirstLooped b (x ∷ more) left = (IsLeftLooped b x × (x ≡ left)) ⊎ ((¬ 
 -- where a net leads back to itself, one of the left sides writes such a net
 abbrev pub AreCovered : Building → List Left → Type 0
 AreCovered b lefts = (n : ℕ) → IsLooped b n → (left : Left) × Contains lefts left × IsLeftLooped b left
+
+-- For proofs alone.
+
+abbrev pub IsLoopFree : Building → Type 0
+IsLoopFree b = (n : ℕ) → ¬ IsLooped b n

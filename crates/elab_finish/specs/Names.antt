@@ -28,6 +28,8 @@ IsRegisterAt (Some r) span = r.span ≡ span
 abbrev pub IsAgainAt : List Register → Span → Type 0
 IsAgainAt registers span = (p : ℕ) × IsFirst (IsNamedAgain registers) p × IsRegisterAt (slice_get registers p) span
 
+-- For proofs alone.
+
 -- The names that were met.
 
 -- the set has these names, and no others

@@ -5,6 +5,8 @@ use Rattle.netlist_core.specs.declared.port.Register.{Register}
 use Rattle.net_builder.specs.Building.{Building, signal, start_bits, declared_at}
 use Rattle.elab_finish.specs.Endings.{is_register}
 
+-- For proofs alone.
+
 -- the register of a signal, whatever it takes
 pub record IsSlot (b : Building) (k : ℕ) (r : Register) : Type 0 where
   pub name : r.name ≡ (declared_at b k).name

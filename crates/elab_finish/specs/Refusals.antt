@@ -5,7 +5,7 @@ use Rattle.mcy_base.specs.declared.span.Span.{Span}
 use Rattle.netlist_core.specs.declared.cell.Cell.{Cell}
 use Rattle.netlist_core.specs.declared.raw.RawNetlist.{RawNetlist}
 use Rattle.netlist_core.specs.Runs.{q_bits}
-use Rattle.netlist_core.specs.Orders.{IsOnLoop}
+use Rattle.netlist_core.specs.Orders.{Reads, IsOnLoop}
 use Rattle.netlist_core.specs.Checked.{IsFirst, all_bits, net_bits}
 use Rattle.net_builder.specs.Building.{Building}
 use Rattle.elab_finish.specs.declared.error.DesignError.{DesignError}
@@ -36,7 +36,7 @@ IsAt (Some cell) span = cell.span ≡ span
 
 -- The least numbered cell that reads itself, directly or through others, stands at the place.
 abbrev pub IsLoopAt : Building → RawNetlist → Span → Type 0
-IsLoopAt b netlist span = (c : ℕ) × IsFirst (IsOnLoop netlist) c × IsAt (slice_get b.cells c) span
+IsLoopAt b netlist span = (c : ℕ) × IsFirst (IsOnLoop (Reads netlist)) c × IsAt (slice_get b.cells c) span
 
 -- The design has a netlist, which is refused for this.
 abbrev pub IsOver : Building → RawNetlist → DesignError → Type 0

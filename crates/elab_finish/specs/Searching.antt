@@ -8,6 +8,8 @@ use Rattle.net_builder.specs.Finished.{Follows, IsOnLoop}
 use Rattle.elab_finish.specs.declared.search.Mark.{Mark}
 use Rattle.elab_finish.specs.declared.search.Mark.TheVariants.{Unknown, Free, From, Looped}
 
+-- For proofs alone.
+
 -- the net that a step goes on to, or none
 abbrev pub IsNext : Step → Option ℕ → Type 0
 IsNext step None = (m : ℕ) → step ≢ On m

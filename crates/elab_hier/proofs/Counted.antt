@@ -1,18 +1,9 @@
 -- Items whose turns were counted are built, or they are refused.
-use Rattle.std.proofs.Common.{◌≡◌, ◌⊎◌, inl, inr, ℕ, Bool, List, None, Some, take, refl, sym, ◌∙◌, subst}
+use Rattle.elab_hier.proofs.Common.{◌≡◌, ◌⊎◌, inl, inr, ℕ, Bool, List, None, Some, take, refl, sym, ◌∙◌, subst, Building, FlatItem, Flat, Clocks, clocks_of, ElabError, Memory, TooMany, BuildsAll}
+use Rattle.elab_hier.proofs.Common.{FailsSome, IsPast, max_turns, IsBegun, IsBuilt, IsNotBuilt, build_answer, counted}
 use Rattle.mcy_base.specs.declared.kind.Kind.TheVariants.{LoopTurns}
-use Rattle.net_builder.specs.Building.{Building}
-use Rattle.flat_instances.specs.declared.item.FlatItem.{FlatItem}
-use Rattle.flat_items.specs.Flattened.{Flat}
-use Rattle.flat_clocks.specs.Clocks.{Clocks, clocks_of}
-use Rattle.elab_items.specs.declared.answer.ElabError.{ElabError}
-use Rattle.elab_items.specs.declared.answer.ElabError.TheVariants.{Memory, TooMany}
 use Rattle.elab_items.specs.declared.error.BuildError.{BuildError}
-use Rattle.elab_items.specs.Timed.{BuildsAll, FailsSome}
-use Rattle.elab_items.specs.Turns.{IsPast, max_turns}
 use Rattle.elab_items.proofs.Turning.{all_within}
-use Rattle.elab_hier.specs.Parts.{IsBegun, IsBuilt, IsNotBuilt}
-use Rattle.elab_hier.specs.Refusals.{build_answer, counted}
 
 module _ (flat : Flat) (flags : List Bool) (clocks : Clocks) (timed : clocks ≡ clocks_of flags flat) (first : Building) (begun : IsBegun flat first) where
   -- some of the items are not built

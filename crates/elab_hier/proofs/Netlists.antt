@@ -1,26 +1,13 @@
 -- The end of elaboration: where all items are built, the netlist is that of the source, or is refused as a whole.
-use Rattle.std.proofs.Common.{◌≡◌, inl, inr, ℕ, Bool, true, false, List, [], ◌∷◌, Option, length, sym, ap, subst}
-use Rattle.std.specs.Prelude.{if◌then◌else◌}
-use Rattle.std.specs.List.{Contains}
-use Rattle.netlist_core.specs.declared.raw.RawNetlist.{RawNetlist}
-use Rattle.vlog_syntax.specs.declared.identifier.Identifier.{Identifier}
-use Rattle.net_builder.specs.Building.{Building}
-use Rattle.flat_runs.specs.Meanings.{NoneTwice}
+use Rattle.elab_hier.proofs.Common.{◌≡◌, inl, inr, ℕ, Bool, true, false, List, [], ◌∷◌, Option, length, sym, ap, subst, if◌then◌else◌, Contains, RawNetlist, Identifier, Building, NoneTwice, Flat}
+use Rattle.elab_hier.proofs.Common.{clocks_of, IsSound, Widths, StartsWith, ElabError, IsDesign, is_clock, widths_of, without, AllStart, start_values, AreFlagged, declared_numbers, input_numbers}
+use Rattle.elab_hier.proofs.Common.{output_numbers, AreFlags, Source, all_inputs, clock_name, inputs, outputs, Ends, HasNetlist, laid, CanRun, HasItems, IsAccepted, RefusesEnd, end, IsBuilt}
+use Rattle.elab_hier.proofs.Common.{IsNetlistOf, IsRefusalOf, IsRefusedAs, source_of, has_cases, has_first, has_more}
 use Rattle.flat_runs.specs.Adding.{AddsItems}
 use Rattle.flat_runs.specs.Designs.{Design}
 use Rattle.flat_runs.specs.Finishing.{Begins, Finishes}
 use Rattle.flat_runs.specs.Laws.{BuiltRuns}
-use Rattle.flat_runs.proofs.Lists.{contains_cases, contains_first, contains_more}
-use Rattle.flat_items.specs.Flattened.{Flat}
-use Rattle.flat_clocks.specs.Clocks.{clocks_of}
-use Rattle.flat_laws.specs.Sound.{IsSound}
-use Rattle.process_cells.specs.Items.{Widths}
-use Rattle.process_cells.specs.Starts.{StartsWith}
-use Rattle.elab_items.specs.declared.answer.ElabError.{ElabError}
-use Rattle.elab_items.specs.Designs.{IsDesign, is_clock, widths_of, without}
 use Rattle.elab_items.specs.Laws.{DesignsBegin, ItemsAreAdded}
-use Rattle.elab_items.specs.Starting.{AllStart}
-use Rattle.elab_items.specs.Starts.{start_values}
 use Rattle.elab_finish.specs.declared.left.Left.{Left}
 use Rattle.elab_finish.specs.Endings.{CanFinish, IsDesignOf, IsEnding}
 use Rattle.elab_finish.specs.Loops.{AreCovered}
@@ -29,19 +16,18 @@ use Rattle.elab_finish.specs.Refusals.{IsRefused, IsWithin}
 use Rattle.elab_lefts.specs.Lefts.{design_lefts}
 use Rattle.elab_lefts.specs.Laws.{BuiltAreCovered}
 use Rattle.elab_writers.specs.Laws.{BuildersAreOfDesigns, DesignsCanFinish}
-use Rattle.elab_writers.specs.Numbers.{AreFlagged, declared_numbers, input_numbers, output_numbers}
-use Rattle.elab_hier.specs.Tops.{AreFlags, Source, all_inputs, clock_name, inputs, outputs}
-use Rattle.elab_hier.specs.Elaborations.{CanRun, Ends, HasNetlist}
-use Rattle.elab_hier.specs.Refusals.{RefusesEnd, end}
-use Rattle.elab_hier.specs.Parts.{IsBuilt, IsNetlistOf, IsRefusalOf, IsRefusedAs, source_of}
+use Rattle.elab_once.proofs.Built.{items_laid}
+pub use Rattle.elab_once.proofs.Built.{built_once}
+pub use Rattle.elab_once.proofs.Building.{begin_alike, built_one}
+pub use Rattle.elab_once.proofs.Stopping.{refused_once}
 use Rattle.elab_hier.proofs.Begun.{widths_begun}
 
 -- what is left without the clock was there
 kept_at : (b : Bool) (x : ℕ) (left more : List ℕ) (k : ℕ) → ((j : ℕ) → Contains left j → Contains more j) → Contains (if b then left else x ∷ left) k → Contains (x ∷ more) k
-kept_at true x left more k later h = contains_more more x k (later k h)
-kept_at false x left more k later h = elim (contains_cases left x k h) [
-  | inl e ↦ subst (Contains (x ∷ more)) e (contains_first more x)
-  | inr rest ↦ contains_more more x k (later k rest)
+kept_at true x left more k later h = has_more more x k (later k h)
+kept_at false x left more k later h = elim (has_cases left x k h) [
+  | inl e ↦ subst (Contains (x ∷ more)) e (has_first more x)
+  | inr rest ↦ has_more more x k (later k rest)
 ]
 
 without_kept : (c : Option ℕ) (ks : List ℕ) (k : ℕ) → Contains (without c ks) k → Contains ks k
@@ -89,22 +75,27 @@ module _ (flat : Flat) (ports : List Identifier) (flags : List Bool) (sound : Is
       let ends_a = subst (λ (n : Option (List ℕ)). IsEnding last top n ins outs ks netlist) name_is ending in
       let ends_b = subst (λ (l : List ℕ). IsEnding last top (clock_name (source_of flat ports flags)) l outs ks netlist) in_is ends_a in
       let ends_c = subst (λ (l : List ℕ). IsEnding last top (clock_name (source_of flat ports flags)) (input_numbers ports (clocks_of flags flat).clock flat) l ks netlist) out_is ends_b in
-      let ends : Ends (source_of flat ports flags) top last netlist = subst (λ (l : List ℕ). IsEnding last top (clock_name (source_of flat ports flags)) (input_numbers ports (clocks_of flags flat).clock flat) (output_numbers ports flat) l netlist) k_is ends_c in
-      let has : HasNetlist (source_of flat ports flags) top netlist = record {
+      let source : Source = source_of flat ports flags in
+      let lays : last ≡ laid source built.first = items_laid flags flat (clocks_of flags flat) flat.items built.first last built.builds.all in
+      let ends : Ends source top last netlist = subst (λ (l : List ℕ). IsEnding last top (clock_name (source_of flat ports flags)) (input_numbers ports (clocks_of flags flat).clock flat) (output_numbers ports flat) l netlist) k_is ends_c in
+      let has : HasNetlist source top netlist = record {
         first = built.first;
-        begins = built.begun.begins;
-        last = last;
-        builds = built.builds;
-        ends = ends;
-        within = within;
-        apart = apart;
-        runnable = can_run;
+        begins = built.begun.begins.declared;
+        ends = subst (λ (b : Building). Ends source top b netlist) lays ends;
         design = design;
         is_design = a.1;
         starts = start;
         runs = runs built.first last design netlist begins a.2 (finishes design is_c);
       } in
-      record { flags = flags; are_flags = are; has_netlist = has }
+      let accepted : IsAccepted source top netlist = record {
+        is = has;
+        fits = built.begun.begins.fits;
+        builds = subst (HasItems flat flags built.first) lays built.builds;
+        within = within;
+        apart = apart;
+        runnable = can_run;
+      } in
+      record { flags = flags; are_flags = are; has_netlist = accepted }
 
   -- there is none
   pub not_ended : ItemsAreAdded → (top : List ℕ) (name : Option (List ℕ)) (ins outs ks : List ℕ) (lefts : List Left) (error : ElabError)

@@ -1,12 +1,8 @@
 -- Flags of numbers, and lists in which no number stands twice.
-use Rattle.std.proofs.Common.{◌≡◌, ◌≢◌, ◌⊎◌, ◌↔◌, inl, inr, ℕ, zero, suc, ◌+◌, ◌<◌, Bool, true, false, IsTrue, List, [], ◌∷◌, ◌++◌, get_or, set, take, replicate, length, refl, sym, ap, ◌∙◌, subst, arith, add-one, length-set, get_or-set_same, get_or-set_other}
+use Rattle.elab_hier.proofs.Common.{◌≡◌, ◌≢◌, ◌⊎◌, ◌↔◌, inl, inr, ℕ, zero, suc, ◌+◌, ◌<◌, Bool, true, false, IsTrue, List, [], ◌∷◌, ◌++◌, get_or, set, take, length, sym, ap, ◌∙◌, subst, arith}
+use Rattle.elab_hier.proofs.Common.{add-one, length-set, get_or-set_same, get_or-set_other, Contains, NoneTwice, AreFlags, has_first, has_more, has_none}
 use Rattle.std.proofs.lemmas.Bool.{cases_eq, false≢true}
-use Rattle.std.proofs.lemmas.List.{length-replicate}
-use Rattle.std.specs.List.{Contains}
 use Rattle.std.proofs.lemmas.List.Elements.{Contains-append_left, Contains-push, Contains-push_cases}
-use Rattle.flat_runs.specs.Meanings.{NoneTwice}
-use Rattle.flat_runs.proofs.Lists.{contains_first, contains_more, contains_none}
-use Rattle.elab_hier.specs.Tops.{AreFlags}
 
 pub taken_last : (ks : List ℕ) (i k : ℕ) → k ≡ get_or ks i k → i < length ks → take (i + 1) ks ≡ take i ks ++ k ∷ []
 taken_last ks i k is less = ap (λ (n : ℕ). take n ks) (add-one i) ∙ last ks i is less where
@@ -14,18 +10,6 @@ taken_last ks i k is less = ap (λ (n : ℕ). take n ks) (add-one i) ∙ last ks
   last [] i is less = absurd (omega (arith, less))
   last (y ∷ ks) zero is less = ap (λ (z : ℕ). z ∷ []) (sym is)
   last (y ∷ ks) (suc i) is less = ap (λ (rest : List ℕ). y ∷ rest) (last ks i is (omega (arith, less)))
-
-no_flag : (n k : ℕ) → get_or (replicate n false) k false ≡ false
-no_flag zero k = refl
-no_flag (suc n) zero = refl
-no_flag (suc n) (suc k) = no_flag n k
-
--- none is set
-pub no_flags : (n : ℕ) (fs : List Bool) → fs ≡ replicate n false → AreFlags n [] fs
-no_flags n fs is = subst (AreFlags n []) (sym is) (record {
-  count = length-replicate n false;
-  set = λ k. ((λ t. absurd (false≢true (sym (no_flag n k) ∙ t))), (λ c. absurd (contains_none k c)));
-})
 
 -- one more is set
 pub flag_set : (n k : ℕ) (ks : List ℕ) (fs : List Bool) → AreFlags n ks fs → k < length fs → AreFlags n (ks ++ k ∷ []) (set fs k true)
@@ -40,10 +24,10 @@ flag_set n k ks fs h less = record { count = length-set fs k true ∙ h.count; s
       ((λ t. Contains-append_left ks (k ∷ []) j ((h.set j).0 (sym same ∙ t))), (λ c. same ∙ (h.set j).1 (before j ne c)))
 
 pub once_more : (ks : List ℕ) (k : ℕ) → NoneTwice ks → ¬ Contains ks k → NoneTwice (ks ++ k ∷ [])
-once_more [] k h new = ((λ c. contains_none k c), tt)
+once_more [] k h new = ((λ c. has_none k c), tt)
 once_more (x ∷ ks) k h new = (
-  (λ c. elim (Contains-push_cases ks k x c) [ inl here ↦ h.0 here | inr e ↦ new (subst (Contains (x ∷ ks)) (sym e) (contains_first ks x)) ]),
-  once_more ks k h.1 (λ c. new (contains_more ks x k c)),
+  (λ c. elim (Contains-push_cases ks k x c) [ inl here ↦ h.0 here | inr e ↦ new (subst (Contains (x ∷ ks)) (sym e) (has_first ks x)) ]),
+  once_more ks k h.1 (λ c. new (has_more ks x k c)),
 )
 
 -- The loops' turns.

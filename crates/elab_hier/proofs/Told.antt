@@ -1,6 +1,5 @@
 -- What results tell.
-use Rattle.std.proofs.Common.{◌≡◌, Result, Ok, Err, sym, subst}
-use Rattle.std.specs.Prelude.{IfErr, IfOk, IsErrAnd}
+use Rattle.elab_hier.proofs.Common.{◌≡◌, Result, Ok, Err, sym, subst, IfErr, IfOk, IsErrAnd}
 
 -- an error is handed on
 pub handed_on : {T E : Type 0} (r : Result T E) (e : E) (Q : E → Type 0) → IsErrAnd r (λ x. x ≡ e) → Q e → IfErr r Q

@@ -21,8 +21,10 @@ use Rattle.elab_writers.specs.Numbers.{declared_numbers, output_numbers}
 use Rattle.elab_hier.specs.declared.numbers.Lists.{Lists}
 use Rattle.elab_hier.specs.declared.ports.Top.{Top}
 use Rattle.elab_hier.specs.Tops.{AreFlags, Source, all_inputs}
-use Rattle.elab_hier.specs.Elaborations.{HasItems, HasNetlist, HasSignals}
+use Rattle.elab_hier.specs.Accepted.{HasItems, HasSignals, IsAccepted}
 use Rattle.elab_hier.specs.Refusals.{RefusesItem, RefusesSource, RefusesTurns, end_answer, full_answer}
+
+-- For proofs alone.
 
 -- the ports of a top whose head has these names
 pub record IsTop (flat : Flat) (ports : List Identifier) (top : Top) : Type 0 where
@@ -67,7 +69,7 @@ source_of flat ports flags = record { flat = flat; ports = ports; flags = flags 
 pub record IsNetlistOf (flat : Flat) (ports : List Identifier) (top : List ℕ) (netlist : RawNetlist) : Type 0 where
   pub flags : List Bool
   pub are_flags : AreFlags (length flat.signals) (all_inputs flat ports) flags
-  pub has_netlist : HasNetlist (source_of flat ports flags) top netlist
+  pub has_netlist : IsAccepted (source_of flat ports flags) top netlist
 
 pub record RefusesFlat (flat : Flat) (ports : List Identifier) (top : List ℕ) (error : ElabError) : Type 0 where
   pub flags : List Bool

@@ -28,7 +28,7 @@ use Rattle.elab_finish.specs.Refusals.{IsRefused}
 use Rattle.elab_lefts.specs.Lefts.{design_lefts}
 use Rattle.elab_writers.specs.Numbers.{declared_numbers}
 use Rattle.elab_hier.specs.Tops.{Source, IsSource, clock_name, inputs, outputs}
-use Rattle.elab_hier.specs.Elaborations.{HasSignals, HasItems}
+use Rattle.elab_hier.specs.Accepted.{HasSignals, HasItems}
 
 -- Nothing can be built of a design with too many bits: it is refused for the first item that is listed as refused before the signal
 -- that passes the limit, or else for the limit.

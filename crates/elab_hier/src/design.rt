@@ -5,6 +5,7 @@ ghost use Rattle.flat_items.specs.Flattened.{module_at};
 ghost use Rattle.flat_items.specs.Views.{flat_of};
 ghost use Rattle.flat_laws.specs.Sound.{IsSound};
 ghost use Rattle.elab_items.specs.declared.answer.ElabError.TheVariants.{NoTop};
+ghost use Rattle.elab_hier.specs.Accepted.{IsElaborated};
 ghost use Rattle.elab_hier.specs.Elaborations.{Elaborates};
 ghost use Rattle.elab_hier.specs.Parts.{IsNetlistOf, IsRefusalOf};
 ghost use Rattle.elab_hier.specs.Refusals.{IsElabRefusal};
@@ -49,9 +50,10 @@ fn elaborate_flat(
 ///
 /// It has the runs of its source. Items are built in order, and the first one that is refused is answered; nets and cells that loop,
 /// and too many bits, are refused last.
-#[tactic(auto, using(crate::proofs::Sources::flat_sound, crate::proofs::Sources::all_elaborated, crate::proofs::Sources::none_elaborated))]
+#[tactic(auto, using(crate::proofs::Sources::flat_sound, crate::proofs::Sources::none_elaborated))]
 pub fn elaborate(alloc: Global, modules: &[Module], top: &str) -> Result<Netlist, ElabError>
     ensures ok { IfOk result (λ n. Elaborates modules.now top.now n.raw) }
+    ensures accepted { IfOk result (λ n. IsElaborated modules.now top.now n.raw) }
     ensures no_top { module_at modules.now top.now ≡ None → result ≡ Err NoTop }
     ensures refused { IfErr result (IsElabRefusal modules.now top.now) }
 {

@@ -5,7 +5,7 @@ ghost use Rattle.flat_runs.specs.Finishing.{Finishes};
 ghost use Rattle.elab_finish.specs.Endings.{CanFinish, IsDesignOf, IsEnding};
 ghost use Rattle.elab_finish.specs.Names.{AreNamedApart};
 ghost use Rattle.elab_finish.specs.Refusals.{IsWithin};
-ghost use Rattle.elab_hier.specs.Elaborations.{CanRun};
+ghost use Rattle.elab_hier.specs.Accepted.{CanRun};
 ghost use Rattle.elab_hier.specs.Parts.{IsRefusedAs};
 
 use crate::answers::end_answer;

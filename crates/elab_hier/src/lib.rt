@@ -6,8 +6,8 @@
 //! `numbers` lists: the inputs without the clock, the declared signals in order, the clock's name, and the left sides. `answers`
 //! says which answer each refusal is.
 //!
-//! In its specs, `Tops` says what the source of modules is, `Elaborations` what its netlist is, and `Refusals` why there is none;
-//! `Parts` is about the code's parts. In its proofs, `Once` is about flags and lists of numbers, `Begun`, `Counted` and `Netlists`
+//! In its specs, `Tops` says what the source of modules is, `Elaborations` what its netlist is, `Accepted` that nothing in it is
+//! refused, and `Refusals` why there is none; `Parts` is about the code's parts. In its proofs, `Once` is about flags and lists of numbers, `Begun`, `Counted` and `Netlists`
 //! go from the laws of the crates below to the netlist, `Sources` to the modules, and `Told` is about results.
 #![tactic(auto)]
 

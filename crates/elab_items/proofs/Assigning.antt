@@ -1,42 +1,14 @@
 -- What items assign.
-use Rattle.std.proofs.Common.{◌≡◌, inl, inr, ℕ, zero, suc, Bool, true, false, List, [], ◌∷◌, ◌++◌, map, Option, Some, None, refl, sym, ap, ◌∙◌, subst}
-use Rattle.std.specs.Prelude.{option_map, if◌then◌else◌}
-use Rattle.std.specs.List.{Contains}
-use Rattle.std.proofs.lemmas.List.Elements.{Contains-append_cases, Contains-append_left, Contains-append_right}
-use Rattle.mcy_base.specs.declared.span.Span.{Span}
-use Rattle.vlog_syntax.specs.declared.expr.Expr.{Expr}
-use Rattle.vlog_syntax.specs.declared.item.Process.{Process}
-use Rattle.vlog_syntax.specs.declared.left_side.LeftSide.{LeftSide}
+use Rattle.elab_items.proofs.Common.{◌≡◌, inl, inr, ℕ, zero, suc, Bool, true, false, List, [], ◌∷◌, ◌++◌, map, Option, Some, None, refl, sym, ap, ◌∙◌, subst, option_map, if◌then◌else◌, Contains}
+use Rattle.elab_items.proofs.Common.{Contains-append_cases, Contains-append_left, Contains-append_right, Span, Expr, Process, LeftSide, Names, Part, parts_of, Steps, steps_of, Refusal, IsFirst}
+use Rattle.elab_items.proofs.Common.{same_form, Write, sound, target_of, writes, statement, CanBeBuilt, variables, steps_are, Written, places_from, WrittenBit, form_parts, Slice, all_places, placed}
+use Rattle.elab_items.proofs.Common.{slice_places, slices, Target, bit_targets, targets, form_is, Place, Found, process_writes, names_at, some_same, has_cases, has_first, has_more, has_none}
 use Rattle.vlog_syntax.specs.declared.stmt.Stmt.{Stmt, out-Stmt}
-use Rattle.vlog_meaning.specs.Scopes.{Names}
 use Rattle.vlog_effects.specs.Latches.{Target as Assigned}
-use Rattle.vlog_effects.specs.LeftSides.{Part, parts_of}
-use Rattle.vlog_effects.specs.Steps.{Steps, steps_of}
-use Rattle.elab_proc.specs.declared.refusal.Refusal.{Refusal}
-use Rattle.elab_proc.specs.Order.{IsFirst}
-use Rattle.elab_proc.specs.Refusals.{same_form}
 use Rattle.process_latches.specs.declared.marks.Marks.{Marks}
-use Rattle.process_latches.specs.declared.marks.Write.{Write}
 use Rattle.process_latches.specs.Marking.{AreBlank, Marked}
-use Rattle.process_latches.specs.Sound.{sound}
-use Rattle.process_latches.specs.Writes.{target_of, writes}
 use Rattle.proc_muxes.specs.Builds.{distinct_after, stands}
-use Rattle.process_cells.specs.Items.{statement}
-use Rattle.process_cells.specs.Processes.{CanBeBuilt, variables}
-use Rattle.process_cells.proofs.Items.{steps_are}
-use Rattle.flat_runs.specs.Meanings.{Place as Written}
-use Rattle.flat_runs.specs.Parts.{places_from}
-use Rattle.flat_runs.proofs.Lists.{contains_cases, contains_first, contains_more, contains_none}
-use Rattle.flat_assigns.specs.declared.written.WrittenBit.{WrittenBit}
 use Rattle.flat_assigns.specs.Bits.{targets_of}
-use Rattle.flat_assigns.specs.Forms.{form_parts}
-use Rattle.flat_assigns.specs.Sides.{Slice, all_places, placed, slice_places, slices}
-use Rattle.flat_assigns.specs.Writers.{Target, bit_targets, targets}
-use Rattle.flat_assigns.proofs.Forms.{form_is}
-use Rattle.flat_instances.specs.Places.{Place}
-use Rattle.elab_items.specs.declared.error.Reason.TheVariants.{Found}
-use Rattle.elab_items.specs.Assigned.{process_writes}
-use Rattle.elab_items.specs.Starts.{names_at}
 
 -- The code's lists.
 
@@ -60,10 +32,10 @@ writes_marked names p body inner a b is behind blank marked =
 -- Bits of left sides.
 
 pub contains_map : {A B : Type 0} (f : A → B) (xs : List A) (x : A) → Contains xs x → Contains (map f xs) (f x)
-contains_map f [] x c = absurd (contains_none x c)
-contains_map {A} {B} f (y ∷ ys) x c = elim (contains_cases ys y x c) [
-  | inl e ↦ subst (λ (z : A). Contains (f y ∷ map f ys) (f z)) e (contains_first (map f ys) (f y))
-  | inr m ↦ contains_more (map f ys) (f y) (f x) (contains_map f ys x m)
+contains_map f [] x c = absurd (has_none x c)
+contains_map {A} {B} f (y ∷ ys) x c = elim (has_cases ys y x c) [
+  | inl e ↦ subst (λ (z : A). Contains (f y ∷ map f ys) (f z)) e (has_first (map f ys) (f y))
+  | inr m ↦ has_more (map f ys) (f y) (f x) (contains_map f ys x m)
 ]
 
 -- one of the bits is this place
@@ -71,20 +43,20 @@ abbrev pub Met : List Target → Written → Type 0
 Met ts p = (t : Target) × Contains ts t × (t.place ≡ p)
 
 bits_met : (span : Span) (s : ℕ) (bits : List (Option ℕ)) (p : Written) → Contains (map (placed s) bits) (Some p) → Met (bit_targets span s bits) p
-bits_met span s [] p c = absurd (contains_none (Some p) c)
-bits_met span s (None ∷ more) p c = elim (contains_cases (map (placed s) more) None (Some p) c) [
+bits_met span s [] p c = absurd (has_none (Some p) c)
+bits_met span s (None ∷ more) p c = elim (has_cases (map (placed s) more) None (Some p) c) [
   | inl e ↦ absurd cc
   | inr m ↦ bits_met span s more p m
 ]
-bits_met span s (Some j ∷ more) p c = elim (contains_cases (map (placed s) more) (Some (record { signal = s; bit = j })) (Some p) c) [
-  | inl e ↦ (record { span = span; place = record { signal = s; bit = j } }, contains_first (bit_targets span s more) (record { span = span; place = record { signal = s; bit = j } }), some_same e)
-  | inr m ↦ let t = bits_met span s more p m in (t.0, contains_more (bit_targets span s more) (record { span = span; place = record { signal = s; bit = j } }) t.0 t.1, t.2)
+bits_met span s (Some j ∷ more) p c = elim (has_cases (map (placed s) more) (Some (record { signal = s; bit = j })) (Some p) c) [
+  | inl e ↦ (record { span = span; place = record { signal = s; bit = j } }, has_first (bit_targets span s more) (record { span = span; place = record { signal = s; bit = j } }), some_same e)
+  | inr m ↦ let t = bits_met span s more p m in (t.0, has_more (bit_targets span s more) (record { span = span; place = record { signal = s; bit = j } }) t.0 t.1, t.2)
 ] where
   some_same : Some (record { signal = s; bit = j }) ≡ Some p → record { signal = s; bit = j } ≡ p
   some_same e = cc
 
 pub places_met : (ss : List Slice) (p : Written) → Contains (all_places ss) (Some p) → Met (targets ss) p
-places_met [] p c = absurd (contains_none (Some p) c)
+places_met [] p c = absurd (has_none (Some p) c)
 places_met (s ∷ more) p c = elim (Contains-append_cases (all_places more) (slice_places s) (Some p) c) [
   | inl m ↦ let t = places_met more p m in (t.0, Contains-append_right (bit_targets s.span s.signal s.bits) (targets more) t.0 t.1, t.2)
   | inr m ↦ let t = bits_met s.span s.signal s.bits p m in (t.0, Contains-append_left (bit_targets s.span s.signal s.bits) (targets more) t.0 t.1, t.2)
@@ -97,10 +69,10 @@ among_all seen [] k c = c
 among_all seen (x ∷ more) k c = go (stands x.is_blocking seen x.number) (λ h. among_all seen more k h) (λ h. among_all (x ∷ seen) more k h) c where
   go : (b : Bool) → (Contains (map (λ (y : Assigned). y.number) (distinct_after seen more)) k → Contains (map (λ (y : Assigned). y.number) more) k) → (Contains (map (λ (y : Assigned). y.number) (distinct_after (x ∷ seen) more)) k → Contains (map (λ (y : Assigned). y.number) more) k)
       → Contains (map (λ (y : Assigned). y.number) (if b then distinct_after seen more else x ∷ distinct_after (x ∷ seen) more)) k → Contains (map (λ (y : Assigned). y.number) (x ∷ more)) k
-  go true same other h = contains_more (map (λ (y : Assigned). y.number) more) x.number k (same h)
-  go false same other h = elim (contains_cases (map (λ (y : Assigned). y.number) (distinct_after (x ∷ seen) more)) x.number k h) [
-    | inl e ↦ subst (Contains (map (λ (y : Assigned). y.number) (x ∷ more))) e (contains_first (map (λ (y : Assigned). y.number) more) x.number)
-    | inr m ↦ contains_more (map (λ (y : Assigned). y.number) more) x.number k (other m)
+  go true same other h = has_more (map (λ (y : Assigned). y.number) more) x.number k (same h)
+  go false same other h = elim (has_cases (map (λ (y : Assigned). y.number) (distinct_after (x ∷ seen) more)) x.number k h) [
+    | inl e ↦ subst (Contains (map (λ (y : Assigned). y.number) (x ∷ more))) e (has_first (map (λ (y : Assigned). y.number) more) x.number)
+    | inr m ↦ has_more (map (λ (y : Assigned). y.number) more) x.number k (other m)
   ]
 
 numbers_same : (ws : List Write) → map (λ (x : Assigned). x.number) (map target_of ws) ≡ map (λ (w : Write). w.number) ws
@@ -115,9 +87,6 @@ variable_met is_combinational steps k fit c =
 
 -- What an item means.
 
-pub some_same : {A : Type 0} (x y : A) → Some x ≡ Some y → x ≡ y
-some_same x y e = cc
-
 pub none_not : {A : Type 0} (x : A) → Some x ≡ None → ⊥
 none_not x e = cc
 
@@ -126,8 +95,8 @@ signal_same p q e = ap (λ (x : Written). x.signal) (some_same p q e)
 
 -- the places of a port are its own
 pub port_is : (k i n j b : ℕ) → Contains (places_from k i n) (Some (record { signal = j; bit = b })) → k ≡ j
-port_is k i zero j b c = absurd (contains_none (Some (record { signal = j; bit = b })) c)
-port_is k i (suc n) j b c = elim (contains_cases (places_from k (suc i) n) (Some (record { signal = k; bit = i })) (Some (record { signal = j; bit = b })) c) [
+port_is k i zero j b c = absurd (has_none (Some (record { signal = j; bit = b })) c)
+port_is k i (suc n) j b c = elim (has_cases (places_from k (suc i) n) (Some (record { signal = k; bit = i })) (Some (record { signal = j; bit = b })) c) [
   | inl e ↦ signal_same (record { signal = k; bit = i }) (record { signal = j; bit = b }) e
   | inr m ↦ port_is k (suc i) n j b m
 ]

@@ -1,51 +1,25 @@
 -- What is built of each kind of item, and why it is not.
-use Rattle.std.proofs.Common.{◌≡◌, ℕ, ◌+◌, Bool, List, [], length, Option, Some, None, refl, sym, ap, ◌∙◌, subst}
-use Rattle.std.specs.Prelude.{option_map}
-use Rattle.std.proofs.lemmas.List.{append-nil}
-use Rattle.mcy_base.specs.declared.kind.Kind.{Kind}
+use Rattle.elab_items.proofs.Common.{◌≡◌, ℕ, ◌+◌, Bool, List, [], length, Option, Some, None, refl, sym, ap, ◌∙◌, subst, option_map, append-nil, Kind, Span, Expr, LeftSide, least, Names, ElabError}
+use Rattle.elab_items.proofs.Common.{Building, HasSignals, signal, Made, IsShortOf, same_form, Meaning, Assign, whole, IsRefusal, assignment, IsBuilt, IsLimit, IsReady, left_width, right_cells}
+use Rattle.elab_items.proofs.Common.{right_refusals, right_value, Place, BuildError, Refused, TooMany, Memory, widths_in, names_at, entering, opening, HasWriter, AddsCells, Builds, BuildsSides, Fails}
+use Rattle.elab_items.proofs.Common.{FailsSides, FailsInput, IsShort, Stands, assign_error, input_error, wrong_value}
 use Rattle.mcy_base.specs.declared.kind.Kind.TheVariants as kind
-use Rattle.mcy_base.specs.declared.span.Span.{Span}
-use Rattle.vlog_syntax.specs.declared.expr.Expr.{Expr}
 use Rattle.vlog_syntax.specs.declared.expr.Expr.TheVariants as e
 use Rattle.vlog_syntax.specs.declared.identifier.Identifier.{Identifier}
-use Rattle.vlog_syntax.specs.declared.left_side.LeftSide.{LeftSide}
 use Rattle.vlog_syntax.specs.declared.left_side.LeftSide.TheVariants as l
 use Rattle.vlog_meaning.specs.declared.fault.Cause.{Cause}
 use Rattle.vlog_meaning.specs.declared.fault.Cause.TheVariants as cause
-use Rattle.vlog_meaning.specs.declared.fault.ConstError.{ConstError}
 use Rattle.vlog_meaning.specs.declared.fault.Fault.{Fault}
-use Rattle.vlog_meaning.specs.Answers.{least}
-use Rattle.vlog_meaning.specs.Scopes.{Names}
 use Rattle.vlog_meaning.proofs.Firsts.{least_none}
 use Rattle.vlog_effects.specs.Expressions.{width_of}
-use Rattle.net_builder.specs.declared.error.ElabError.{ElabError}
 use Rattle.net_builder.specs.declared.error.ElabError.TheVariants as elab
-use Rattle.net_builder.specs.Building.{Building, HasSignals, signal}
 use Rattle.net_builder.specs.Errors.{elab_error}
-use Rattle.expr_plans.specs.Made.{Made}
-use Rattle.net_builder.specs.Refusals.{IsShort as IsShortOf}
-use Rattle.elab_proc.specs.Refusals.{same_form}
-use Rattle.flat_runs.specs.Meanings.{Meaning, Assign}
-use Rattle.flat_runs.specs.Parts.{whole}
 use Rattle.flat_assigns.specs.declared.refusal.AssignError.{AssignError}
 use Rattle.flat_assigns.specs.declared.refusal.AssignError.TheVariants as assign
 use Rattle.flat_assigns.specs.declared.refusal.Refusal.{Refusal}
-use Rattle.flat_assigns.specs.Assignments.{IsRefusal, assignment}
-use Rattle.flat_assigns.specs.Built.{IsBuilt, IsLimit, IsReady}
 use Rattle.flat_assigns.specs.Laid.{lay_input, lay_open}
-use Rattle.flat_assigns.specs.Sides.{left_width}
-use Rattle.flat_assigns.specs.Values.{right_cells, right_refusals, right_value}
 use Rattle.flat_assigns.proofs.Laying.{outputs_laid}
-use Rattle.flat_instances.specs.Places.{Place}
 use Rattle.flat_instances.specs.declared.item.FlatItem.TheVariants as f
-use Rattle.elab_items.specs.declared.error.BuildError.{BuildError}
-use Rattle.elab_items.specs.declared.error.BuildError.TheVariants.{Refused, TooMany, Memory}
-use Rattle.process_cells.specs.Items.{widths_in}
-use Rattle.elab_items.specs.declared.error.Reason.TheVariants.{Start}
-use Rattle.elab_items.specs.Starts.{names_at, start_error}
-use Rattle.elab_items.specs.Meanings.{entering, opening}
-use Rattle.elab_items.specs.Writers.{HasWriter}
-use Rattle.elab_items.specs.Items.{AddsCells, Builds, BuildsSides, Fails, FailsSides, FailsInput, IsShort, Stands, assign_error, input_error, wrong_value}
 
 -- what an assignment adds
 cells_added : (old new : Building) (m : Meaning) (made : List Made) → IsBuilt old new m made → AddsCells old new made
@@ -58,15 +32,6 @@ no_cells_added b = record { more = []; cells = sym (append-nil b.cells); are = r
 
 pub declares_built : (inputs : List Bool) (places : List Place) (k : ℕ) (b : Building) → IsReady b → Builds inputs places (f.Declares k) b b
 declares_built inputs places k b ready = record { accepted = refl; meaning = None; means = refl; adds = refl; parts = no_cells_added b; port = tt; ready = ready; declared = refl; starts = refl; laid = refl }
-
-pub starts_built : (inputs : List Bool) (places : List Place) (number k : ℕ) (value : Expr) (names : Names) (b : Building) → names_at places k ≡ names → start_error names value (widths_in b number) ≡ None → IsReady b → Builds inputs places (f.Starts number k value) b b
-starts_built inputs places number k value names b is none ready =
-    let fine = subst (λ (x : Names). start_error x value (widths_in b number) ≡ None) (sym is) none in
-    record { accepted = sym (ap (option_map Start) fine); meaning = None; means = refl; adds = refl; parts = no_cells_added b; port = tt; ready = ready; declared = refl; starts = refl; laid = refl }
-
-pub starts_fail : (inputs : List Bool) (places : List Place) (number k : ℕ) (value : Expr) (names : Names) (b : Building) (error : ConstError) → names_at places k ≡ names → start_error names value (widths_in b number) ≡ Some error → Fails inputs places (f.Starts number k value) b (Refused (Start error))
-starts_fail inputs places number k value names b error is some =
-    let told = subst (λ (x : Names). start_error x value (widths_in b number) ≡ Some error) (sym is) some in sym (ap (option_map Start) told)
 
 -- assignments
 
@@ -205,7 +170,3 @@ enters_fail inputs places port k value names old Memory is h = tt
 
 pub opens_built : (inputs : List Bool) (places : List Place) (port : ℕ) (old new : Building) → ¬ HasWriter old inputs port → IsBuilt old new (Assign (whole old port) (λ store. 0)) [] → new ≡ lay_open port old → Builds inputs places (f.Open port) old new
 opens_built inputs places port old new new_port built laid = record { accepted = refl; meaning = Some (opening (widths_in old) port); means = refl; adds = built.adds; parts = cells_added old new (opening (widths_in old) port) [] built; port = new_port; ready = built.ready; declared = built.declared; starts = built.starts; laid = laid }
-
-pub nothing_refused : (o : Option Fault) → ((x : Fault) → o ≡ Some x → ⊥) → o ≡ None
-nothing_refused None h = refl
-nothing_refused (Some x) h = absurd (h x refl)

@@ -1,18 +1,8 @@
 -- How many cells an item adds.
-use Rattle.std.proofs.Common.{◌≡◌, ℕ, ◌+◌, ◌≤◌, Bool, List, length, sym, ap, ◌∙◌, subst, arith, length-append}
-use Rattle.std.proofs.lemmas.List.{length-map}
-use Rattle.vlog_effects.specs.Steps.{Steps}
-use Rattle.net_builder.specs.Building.{Building}
-use Rattle.expr_plans.specs.Made.{Made, made_of}
-use Rattle.net_builder.specs.Refusals.{max_cells}
+use Rattle.elab_items.proofs.Common.{◌≡◌, ℕ, ◌+◌, ◌≤◌, Bool, List, length, sym, ap, ◌∙◌, subst, arith, length-append, length-map, Steps, Building, Made, made_of, max_cells, AddsBy, AddsMeaning}
+use Rattle.elab_items.proofs.Common.{BuildsBy, cells_by, meaning_of, process_steps, widths_in, clocked_adds, combinational_adds, Place, FlatItem, AddsCells, Builds, cell_count, item_cells, names_at}
 use Rattle.process_events.specs.Events.{Sensitivity, Once, Combinational, Clocked, Refused, sensitivity}
-use Rattle.process_cells.specs.Items.{AddsBy, AddsMeaning, BuildsBy, cells_by, meaning_of, process_steps, widths_in}
-use Rattle.process_cells.proofs.Items.{clocked_adds, combinational_adds}
-use Rattle.flat_instances.specs.Places.{Place}
-use Rattle.flat_instances.specs.declared.item.FlatItem.{FlatItem}
 use Rattle.flat_instances.specs.declared.item.FlatItem.TheVariants as f
-use Rattle.elab_items.specs.Items.{AddsCells, Builds, cell_count, item_cells}
-use Rattle.elab_items.specs.Starts.{names_at}
 
 -- cells of a right side
 cells_more : (old new : Building) (made : List Made) → AddsCells old new made → length new.cells ≡ length old.cells + length made

@@ -1,19 +1,7 @@
 -- The builder in which all signals are declared.
-use Rattle.std.proofs.Common.{◌≡◌, ℕ, zero, suc, ◌+◌, ◌<◌, ◌≤◌, List, [], ◌∷◌, ◌++◌, map, length, refl, sym, ap, ◌∙◌, subst, arith}
-use Rattle.std.specs.Prelude.{slice_index_or}
-use Rattle.std.specs.List.{Contains}
-use Rattle.std.proofs.lemmas.List.{append-nil, append_assoc, map-append}
-use Rattle.netlist_core.specs.declared.bit.Bit.{Bit}
-use Rattle.flat_scopes.specs.declared.signal.Signal.{Signal}
-use Rattle.net_builder.specs.declared.builder.Signal.{Signal as Kept}
-use Rattle.net_builder.specs.Building.{Building, empty, fresh_bits, own_bits, signal, with_declared}
-use Rattle.flat_runs.specs.Adding.{HasOwnNets}
-use Rattle.flat_runs.specs.Designs.{Design}
-use Rattle.flat_runs.specs.Finishing.{Begins}
-use Rattle.flat_runs.proofs.Signals.{declared_own, empty_owns}
-use Rattle.flat_laws.specs.Sound.{AreSized}
-use Rattle.elab_items.specs.Signals.{bits_of, declared, max_bits}
-use Rattle.elab_items.specs.Designs.{widths_of}
+use Rattle.elab_items.proofs.Common.{◌≡◌, ℕ, zero, suc, ◌+◌, ◌<◌, ◌≤◌, List, [], ◌∷◌, ◌++◌, map, length, refl, sym, ap, ◌∙◌, subst, arith, slice_index_or, Contains, append-nil, append_assoc}
+use Rattle.elab_items.proofs.Common.{map-append, Bit, Signal, Building, empty, fresh_bits, own_bits, signal, with_declared, HasOwnNets, Design, Begins, declared_own, empty_owns, AreSized, bits_of}
+use Rattle.elab_items.proofs.Common.{declared, max_bits, widths_of, length_fresh, own_more}
 
 abbrev pub bits_width : Signal → ℕ
 bits_width s = s.bits.width
@@ -34,15 +22,11 @@ pub no_registers : (ss : List Signal) (b : Building) → (declared ss b).registe
 no_registers [] b = refl
 no_registers (s ∷ more) b = no_registers more (with_declared b s.name s.span s.bits.width)
 
-fresh_long : (from width : ℕ) → length (fresh_bits from width) ≡ width
-fresh_long from zero = refl
-fresh_long from (suc width) = let e = fresh_long (from + 1) width in omega (arith, e)
-
 pub lengths : (ss : List Signal) (b : Building) → map length (declared ss b).signals ≡ map length b.signals ++ map bits_width ss
 lengths [] b = sym (append-nil (map length b.signals))
 lengths (s ∷ more) b =
     let next = with_declared b s.name s.span s.bits.width in
-    let here : map length next.signals ≡ map length b.signals ++ s.bits.width ∷ [] = map-append length b.signals (fresh_bits b.nets s.bits.width ∷ []) ∙ ap (λ (n : ℕ). map length b.signals ++ n ∷ []) (fresh_long b.nets s.bits.width) in
+    let here : map length next.signals ≡ map length b.signals ++ s.bits.width ∷ [] = map-append length b.signals (fresh_bits b.nets s.bits.width ∷ []) ∙ ap (λ (n : ℕ). map length b.signals ++ n ∷ []) (length_fresh b.nets s.bits.width) in
     lengths more next ∙ ap (λ (ns : List ℕ). ns ++ map bits_width more) here ∙ append_assoc (map length b.signals) (s.bits.width ∷ []) (map bits_width more)
 
 length_at : (xs : List (List Bit)) (k : ℕ) → slice_index_or (map length xs) k 0 ≡ length (slice_index_or xs k [])
@@ -74,10 +58,6 @@ begun ss b design sized is widths registers = subst (λ (x : Building). Begins x
 })
 
 -- What is left to be declared.
-
-own_more : (ds : List Kept) (d : Kept) → own_bits (ds ++ d ∷ []) ≡ own_bits ds + d.width
-own_more [] d = omega arith
-own_more (x ∷ ds) d = let e = own_more ds d in omega (arith, e)
 
 pub left_more : (ss l more : List Signal) (b new : Building) (s : Signal) → l ≡ s ∷ more → new ≡ with_declared b s.name s.span s.bits.width → own_bits b.declared + s.bits.width ≤ max_bits
     → AreSized l → declared l b ≡ declared ss empty → own_bits b.declared + bits_of l ≡ bits_of ss

@@ -1,3 +1,4 @@
+mod Common
 pub mod Assigning
 pub mod Building
 pub mod Counting

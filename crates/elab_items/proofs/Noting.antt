@@ -1,56 +1,24 @@
 -- The flags of signals while items are built.
-use Rattle.std.proofs.Common.{◌≡◌, ◌⊎◌, ◌↔◌, inl, inr, ℕ, zero, suc, ◌<◌, Bool, IsTrue, List, [], ◌∷◌, map, length, Option, Some, None, refl, sym, ap, ◌∙◌, subst}
-use Rattle.std.specs.Prelude.{slice_get, slice_index_or}
-use Rattle.std.specs.List.{Contains}
-use Rattle.std.proofs.lemmas.Option.{slice_get_within}
-use Rattle.netlist_core.specs.declared.bit.Bit.{Bit}
+use Rattle.elab_items.proofs.Common.{◌≡◌, ◌⊎◌, ◌↔◌, inl, inr, ℕ, zero, suc, ◌<◌, Bool, IsTrue, List, [], ◌∷◌, map, length, Option, Some, None, refl, sym, ap, ◌∙◌, subst, slice_get, slice_index_or}
+use Rattle.elab_items.proofs.Common.{Contains, slice_get_within, same_Some, Bit, Expr, Process, LeftSide, Names, Part, parts_of, Steps, Building, signal, is_written, same_form, Write}
+use Rattle.elab_items.proofs.Common.{process_refusals, sound, writes, Widths, AddsMeaning, IsFit, effect_of, meaning_of, process_meaning, process_steps, widths_in, variables, HasPlaces, Meaning}
+use Rattle.elab_items.proofs.Common.{Writes, places_from, assignment, form_parts, slices, Target, targets, form_is, Place, FlatItem, Desk, item_numbers, process_writes, AreCopies, AreRenewed}
+use Rattle.elab_items.proofs.Common.{AreSound, HasFlags, Holds, Serves, Builds, Refuses, Means, entering, opening, names_at, HasWriter, IsBitWritten, SomeBitWritten, TellsWriters, has_first}
 use Rattle.netlist_core.specs.declared.bit.Bit.TheVariants.{Fixed, Net}
-use Rattle.vlog_syntax.specs.declared.expr.Expr.{Expr}
-use Rattle.vlog_syntax.specs.declared.item.Process.{Process}
-use Rattle.vlog_syntax.specs.declared.left_side.LeftSide.{LeftSide}
 use Rattle.vlog_syntax.specs.declared.left_side.LeftSide.TheVariants as l
-use Rattle.vlog_meaning.specs.Scopes.{Names}
-use Rattle.vlog_effects.specs.LeftSides.{Part, parts_of}
-use Rattle.vlog_effects.specs.Steps.{Steps}
-use Rattle.net_builder.specs.Building.{Building, signal}
 use Rattle.net_builder.specs.Written.{IsJoined, IsStored}
-use Rattle.elab_proc.specs.Refusals.{is_written, same_form}
 use Rattle.process_events.specs.Events.{Sensitivity, Once, Combinational, Clocked, Refused, sensitivity}
-use Rattle.process_latches.specs.declared.marks.Write.{Write}
-use Rattle.process_latches.specs.Refused.{process_refusals}
-use Rattle.process_latches.specs.Sound.{sound}
-use Rattle.process_latches.specs.Writes.{writes}
-use Rattle.process_cells.specs.Items.{Widths, AddsMeaning, IsFit, effect_of, meaning_of, process_meaning, process_steps, widths_in}
-use Rattle.process_cells.specs.Processes.{variables}
-use Rattle.process_cells.specs.Ready.{HasPlaces}
 use Rattle.process_cells.proofs.Fits.{process_fit}
-use Rattle.flat_runs.specs.Meanings.{Meaning, Writes}
 use Rattle.flat_runs.specs.Meanings as meaning
-use Rattle.flat_runs.specs.Parts.{places_from}
-use Rattle.flat_runs.proofs.Lists.{contains_first}
-use Rattle.flat_assigns.specs.Assignments.{assignment}
-use Rattle.flat_assigns.specs.Forms.{form_parts}
-use Rattle.flat_assigns.specs.Sides.{slices}
-use Rattle.flat_assigns.specs.Writers.{Target, targets}
-use Rattle.flat_assigns.proofs.Forms.{form_is}
-use Rattle.flat_instances.specs.Places.{Place}
-use Rattle.flat_instances.specs.declared.item.FlatItem.{FlatItem}
 use Rattle.flat_instances.specs.declared.item.FlatItem.TheVariants as f
-use Rattle.elab_items.specs.declared.desk.Desk.{Desk}
-use Rattle.elab_items.specs.Assigned.{item_numbers, process_writes}
-use Rattle.elab_items.specs.Desks.{AreCopies, AreRenewed, AreSound, HasFlags, Holds, Serves}
-use Rattle.elab_items.specs.Items.{Builds, Refuses}
-use Rattle.elab_items.specs.Meanings.{Means, entering, opening}
-use Rattle.elab_items.specs.Starts.{names_at}
-use Rattle.elab_items.specs.Writers.{HasWriter, IsBitWritten, SomeBitWritten, TellsWriters}
-use Rattle.elab_items.proofs.Assigning.{contains_map, none_not, not_refused, places_met, port_is, some_same, variable_met}
+use Rattle.elab_items.proofs.Assigning.{contains_map, none_not, not_refused, places_met, port_is, variable_met}
 
 -- Each signal that an item writes is one of its numbers.
 
 side_numbered : (lefts : Names) (left : LeftSide) (rights : Names) (right : Expr) (m : Meaning) (k i : ℕ) → Some m ≡ Some (assignment lefts left rights right) → Writes m k i → Contains (map (λ (t : Target). t.place.signal) (targets (slices lefts (parts_of left)))) k
 side_numbered lefts left rights right m k i is w =
     let ts = targets (slices lefts (parts_of left)) in
-    let t = places_met (slices lefts (parts_of left)) (record { signal = k; bit = i }) (subst (λ (x : Meaning). Writes x k i) (some_same m (assignment lefts left rights right) is) w) in
+    let t = places_met (slices lefts (parts_of left)) (record { signal = k; bit = i }) (subst (λ (x : Meaning). Writes x k i) (same_Some m (assignment lefts left rights right) is) w) in
     subst (Contains (map (λ (x : Target). x.place.signal) ts)) (ap (λ (p : meaning.Place). p.signal) t.2) (contains_map (λ (x : Target). x.place.signal) ts t.0 t.1)
 
 form_numbered : (lefts : Names) (left : LeftSide) (value : Expr) (rights : Names) (right : Expr) (m : Meaning) (k i : ℕ) → same_form left ≡ value → Some m ≡ Some (assignment lefts left rights right) → Writes m k i → Contains (map (λ (t : Target). t.place.signal) (targets (slices lefts (form_parts value)))) k
@@ -58,13 +26,13 @@ form_numbered lefts left value rights right m k i form is w =
     subst (λ (ps : List Part). Contains (map (λ (t : Target). t.place.signal) (targets (slices lefts ps))) k) (sym (form_is left) ∙ ap form_parts form) (side_numbered lefts left rights right m k i is w)
 
 port_numbered : (port w k i : ℕ) → Contains (places_from port 0 w) (Some (record { signal = k; bit = i })) → Contains (port ∷ []) k
-port_numbered port w k i c = subst (Contains (port ∷ [])) (port_is port 0 w k i c) (contains_first [] port)
+port_numbered port w k i c = subst (Contains (port ∷ [])) (port_is port 0 w k i c) (has_first [] port)
 
 by_numbered : (width : Widths) (when : Sensitivity) (steps : Steps) (m : Meaning) (k i : ℕ) → IsFit when steps → Some m ≡ meaning_of width when steps → Writes m k i → Contains (map (λ (w : Write). w.number) (writes (sound steps))) k
 by_numbered width Once steps m k i fit is w = absurd (none_not m is)
 by_numbered width (Refused at feature) steps m k i fit is w = absurd (none_not m is)
-by_numbered width Combinational steps m k i fit is w = variable_met _ steps k fit (subst (λ (x : Meaning). Writes x k i) (some_same m (meaning.Combinational (variables steps) (effect_of width steps)) is) w)
-by_numbered width (Clocked clock) steps m k i fit is w = variable_met _ steps k fit (subst (λ (x : Meaning). Writes x k i) (some_same m (meaning.Clocked (variables steps) (effect_of width steps)) is) w)
+by_numbered width Combinational steps m k i fit is w = variable_met _ steps k fit (subst (λ (x : Meaning). Writes x k i) (same_Some m (meaning.Combinational (variables steps) (effect_of width steps)) is) w)
+by_numbered width (Clocked clock) steps m k i fit is w = variable_met _ steps k fit (subst (λ (x : Meaning). Writes x k i) (same_Some m (meaning.Clocked (variables steps) (effect_of width steps)) is) w)
 
 process_numbered : (names : Names) (p : Process) (written : List Bool) (width : Widths) (m : Meaning) (k i : ℕ) → process_refusals names written p ≡ [] → Some m ≡ process_meaning width names p → Writes m k i → Contains (map (λ (w : Write). w.number) (process_writes names p)) k
 process_numbered names p written width m k i none is w = by_numbered width (sensitivity p) (process_steps names p) m k i (process_fit names written p none) is w
@@ -73,8 +41,8 @@ item_numbered : (places : List Place) (inputs : List Bool) (item : FlatItem) (b 
 item_numbered places inputs (f.Declares j) b m k i accepted means w = absurd (none_not m means)
 item_numbered places inputs (f.Assigns j left right) b m k i accepted means w = side_numbered (names_at places j) left (names_at places j) right m k i means w
 item_numbered places inputs (f.Drives j net value) b m k i accepted means w = side_numbered (names_at places j) (l.Name net) (names_at places j) value m k i means w
-item_numbered places inputs (f.Enters port j value) b m k i accepted means w = port_numbered port (widths_in b port) k i (subst (λ (x : Meaning). Writes x k i) (some_same m (entering (widths_in b) port (names_at places j) value) means) w)
-item_numbered places inputs (f.Open port) b m k i accepted means w = port_numbered port (widths_in b port) k i (subst (λ (x : Meaning). Writes x k i) (some_same m (opening (widths_in b) port) means) w)
+item_numbered places inputs (f.Enters port j value) b m k i accepted means w = port_numbered port (widths_in b port) k i (subst (λ (x : Meaning). Writes x k i) (same_Some m (entering (widths_in b) port (names_at places j) value) means) w)
+item_numbered places inputs (f.Open port) b m k i accepted means w = port_numbered port (widths_in b port) k i (subst (λ (x : Meaning). Writes x k i) (same_Some m (opening (widths_in b) port) means) w)
 item_numbered places inputs (f.Leaves j value inside port) b m k i accepted means w = form_numbered (names_at places j) means.0 value (names_at places inside) _ m k i means.1 means.2 w
 item_numbered places inputs (f.Runs j p) b m k i accepted means w =
     process_numbered (names_at places j) p accepted.0 (widths_in b) m k i (not_refused accepted.1 (process_refusals (names_at places j) accepted.0 p) accepted.3 accepted.4) means w
@@ -92,7 +60,7 @@ some_at b (Net n ∷ more) (inl w) = (0, n, refl, w)
 some_at b (Fixed v ∷ more) (inl w) = absurd w
 some_at b (x ∷ more) (inr m) = let t = some_at b more m in (suc t.0, t.1, t.2, t.3)
 
-at_some : (b : Building) (bits : List Bit) (i n : ℕ) → slice_get bits i ≡ Some (Net n) → IsJoined b n ⊎ IsStored b n → SomeBitWritten b bits
+pub at_some : (b : Building) (bits : List Bit) (i n : ℕ) → slice_get bits i ≡ Some (Net n) → IsJoined b n ⊎ IsStored b n → SomeBitWritten b bits
 at_some b [] i n e w = absurd cc
 at_some b (x ∷ more) zero n e w = let same : x ≡ Net n = cc in inl (subst (IsBitWritten b) (sym same) w)
 at_some b (x ∷ more) (suc i) n e w = inr (at_some b more i n e w)
@@ -125,7 +93,7 @@ writer_before : (inputs : List Bool) (places : List Place) (item : FlatItem) (ol
 writer_before inputs places item old new k h not (inl input) = inl input
 writer_before inputs places item old new k h not (inr s) = inr (some_before inputs places item old new k h.meaning h.accepted h.means not h.adds s)
 
-same_signals : (o : Option Meaning) (old new : Building) → AddsMeaning old new o → new.signals ≡ old.signals
+pub same_signals : (o : Option Meaning) (old new : Building) → AddsMeaning old new o → new.signals ≡ old.signals
 same_signals None old new adds = ap (λ (b : Building). b.signals) adds
 same_signals (Some m) old new adds = adds.signals
 

@@ -1,19 +1,12 @@
 -- Flags that are told again.
-use Rattle.std.proofs.Common.{◌≡◌, ◌≢◌, ◌⊎◌, ◌↔◌, inl, inr, ℕ, ◌+◌, ◌<◌, ◌≤◌, Bool, false, IsTrue, List, [], ◌∷◌, ◌++◌, get_or, set, take, length, refl, sym, ap, ◌∙◌, subst, arith, length-set, get_or-set_same, get_or-set_other}
-use Rattle.std.specs.List.{Contains}
-use Rattle.std.proofs.lemmas.Bool.{cases_eq}
-use Rattle.std.proofs.lemmas.List.{take_more}
-use Rattle.std.proofs.lemmas.List.Elements.{Contains-append_cases}
-use Rattle.net_builder.specs.Building.{Building}
-use Rattle.elab_proc.specs.Refusals.{is_written}
-use Rattle.flat_runs.proofs.Lists.{contains_cases, contains_none}
-use Rattle.elab_items.specs.Desks.{AreRenewed, AreSound}
-use Rattle.elab_items.specs.Writers.{HasWriter}
+use Rattle.elab_items.proofs.Common.{◌≡◌, ◌≢◌, ◌⊎◌, ◌↔◌, inl, inr, ℕ, ◌+◌, ◌<◌, ◌≤◌, Bool, false, IsTrue, List, [], ◌∷◌, ◌++◌, get_or, set, take, length, refl, sym, ap, ◌∙◌, subst, arith, length-set}
+use Rattle.elab_items.proofs.Common.{get_or-set_same, get_or-set_other, Contains, cases_eq, take_more, Contains-append_cases, Building, is_written, AreRenewed, AreSound, HasWriter, has_cases}
+use Rattle.elab_items.proofs.Common.{has_none}
 
 not_among : (n k : ℕ) → k ≢ n → Contains (n ∷ []) k → ⊥
-not_among n k other c = elim (contains_cases [] n k c) [
+not_among n k other c = elim (has_cases [] n k c) [
   | inl e ↦ absurd (other (sym e))
-  | inr none ↦ contains_none k none
+  | inr none ↦ has_none k none
 ]
 
 pub one_renewed : (b : Building) (inputs old new : List Bool) (n : ℕ) (w : Bool) → length old ≡ length b.signals → n < length b.signals → (IsTrue w ↔ HasWriter b inputs n) → new ≡ set old n w → AreRenewed b inputs (n ∷ []) old new
@@ -41,7 +34,7 @@ renewed_sound b inputs ks old new h sound k less = go (h.each k less) where
   go (inr kept) set = sound k less (subst IsTrue kept.1 set)
 
 pub start_renewed : (b : Building) (inputs written : List Bool) → AreRenewed b inputs [] written written
-start_renewed b inputs written = record { count = refl; each = λ k less. inr (contains_none k, refl) }
+start_renewed b inputs written = record { count = refl; each = λ k less. inr (has_none k, refl) }
 
 then_renewed : (b : Building) (inputs : List Bool) (xs ys : List ℕ) (old mid new : List Bool) → AreRenewed b inputs xs old mid → AreRenewed b inputs ys mid new → AreRenewed b inputs (xs ++ ys) old new
 then_renewed b inputs xs ys old mid new h r = record { count = r.count ∙ h.count; each = λ k less. go k (h.each k less) (r.each k less) } where

@@ -1,35 +1,15 @@
 -- Processes as items of a flattened design, and the scopes in which they are read.
-use Rattle.std.proofs.Common.{◌≡◌, ◌≢◌, ◌⊎◌, inl, inr, ℕ, ◌+◌, ◌<◌, ◌≤◌, Bool, List, [], ◌∷◌, ◌++◌, get_or, set, length, Option, Some, None, refl, sym, ap, ◌∙◌, subst, arith, lit≤, length-set, length-append, get_or-set_same, get_or-set_other}
-use Rattle.std.proofs.lemmas.Bool.{cases_eq}
-use Rattle.std.proofs.lemmas.List.{get_or_append_left, get_or_default, get_or_push}
-use Rattle.mcy_base.specs.declared.kind.Kind.{Kind}
+use Rattle.elab_items.proofs.Common.{◌≡◌, ◌≢◌, ◌⊎◌, inl, inr, ℕ, ◌+◌, ◌<◌, ◌≤◌, Bool, List, [], ◌∷◌, ◌++◌, get_or, set, length, Option, Some, None, refl, sym, ap, ◌∙◌, subst, arith, lit≤, length-set}
+use Rattle.elab_items.proofs.Common.{length-append, get_or-set_same, get_or-set_other, cases_eq, get_or_append_left, get_or_default, get_or_push, Kind, Process, Decl, Names, decl_shape, names_of}
+use Rattle.elab_items.proofs.Common.{ElabError, Building, IsSignal, Refusal, HasOwnNets, StandsBelow, IsFirst, IsShortOf, process_refusals, Adds, process_cells, process_meaning, widths_in, Place}
+use Rattle.elab_items.proofs.Common.{BuildError, Refused, TooMany, Memory, Found, names_at, TellsWriters, Builds, BuildsProcess, Fails, FailsProcess, Stands, process_error, AreCopies}
 use Rattle.mcy_base.specs.declared.kind.Kind.TheVariants as kind
-use Rattle.vlog_syntax.specs.declared.item.Process.{Process}
-use Rattle.vlog_meaning.specs.declared.scope.Decl.{Decl}
 use Rattle.vlog_meaning.specs.declared.scope.Decl.TheVariants.{Signal, Constant}
 use Rattle.vlog_meaning.specs.Operators.{IsSized}
-use Rattle.vlog_meaning.specs.Scopes.{Names, decl_shape, names_of}
-use Rattle.net_builder.specs.declared.error.ElabError.{ElabError}
 use Rattle.net_builder.specs.declared.error.ElabError.TheVariants as elab
-use Rattle.net_builder.specs.Building.{Building, IsSignal}
-use Rattle.elab_proc.specs.declared.refusal.Refusal.{Refusal}
 use Rattle.elab_proc.specs.Refusals.{AreSized}
-use Rattle.flat_runs.specs.Adding.{HasOwnNets}
-use Rattle.flat_runs.specs.Parts.{StandsBelow}
-use Rattle.elab_proc.specs.Order.{IsFirst}
-use Rattle.net_builder.specs.Refusals.{IsShort as IsShortOf}
-use Rattle.process_latches.specs.Refused.{process_refusals}
-use Rattle.process_cells.specs.Items.{Adds, process_cells, process_meaning, widths_in}
 use Rattle.process_cells.proofs.Laying.{processes_laid}
-use Rattle.flat_instances.specs.Places.{Place}
 use Rattle.flat_instances.specs.declared.item.FlatItem.TheVariants as f
-use Rattle.elab_items.specs.declared.error.BuildError.{BuildError}
-use Rattle.elab_items.specs.declared.error.BuildError.TheVariants.{Refused, TooMany, Memory}
-use Rattle.elab_items.specs.declared.error.Reason.TheVariants.{Found}
-use Rattle.elab_items.specs.Starts.{names_at}
-use Rattle.elab_items.specs.Writers.{TellsWriters}
-use Rattle.elab_items.specs.Items.{Builds, BuildsProcess, Fails, FailsProcess, Stands, process_error}
-use Rattle.elab_items.specs.Desks.{AreCopies}
 
 -- the signals of a scope have from 1 to 128 bits
 pub sized_at : (places : List Place) (b : Building) (k : ℕ) → Stands places b → AreSized (names_at places k)

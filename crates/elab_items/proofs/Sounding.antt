@@ -1,35 +1,15 @@
 -- What stands of a builder in which the signals of a sound design are declared.
-use Rattle.std.proofs.Common.{◌≡◌, inl, inr, ℕ, zero, suc, ◌<◌, ◌≤◌, Bool, true, false, List, [], ◌∷◌, length, Option, Some, None, refl, sym, ap, ◌∙◌, subst, arith}
-use Rattle.std.proofs.lemmas.List.{length-map}
-use Rattle.std.specs.Prelude.{slice_get, slice_index_or, if◌then◌else◌}
-use Rattle.std.specs.List.{Contains}
-use Rattle.std.proofs.lemmas.List.Elements.{Contains-append_cases}
-use Rattle.netlist_core.specs.declared.bit.Bit.{Bit}
-use Rattle.vlog_meaning.specs.declared.scope.Decl.{Decl}
+use Rattle.elab_items.proofs.Common.{◌≡◌, inl, inr, ℕ, zero, suc, ◌<◌, ◌≤◌, Bool, true, false, List, [], ◌∷◌, length, Option, Some, None, refl, sym, ap, ◌∙◌, subst, arith, length-map, slice_get}
+use Rattle.elab_items.proofs.Common.{slice_index_or, if◌then◌else◌, Contains, Contains-append_cases, Bit, Decl, Signal, AllBelow, Building, IsSignal, PortsBelow, empty, signal, with_declared, Meaning}
+use Rattle.elab_items.proofs.Common.{Design, Begins, StandsBelow, empty_owns, Flat, Place, FlatItem, AllStand, AreSized, HasBits, IsSound, ItemStands, NamesSignal, PlaceStands, register_of}
+use Rattle.elab_items.proofs.Common.{registers_of, some_stores, width_in, widths_of, DesignsBegin, SoundAreDeclared, Stands, declared, names_at, names_in, has_cases, has_none}
 use Rattle.vlog_meaning.specs.declared.scope.Decl.TheVariants as d
-use Rattle.flat_scopes.specs.declared.signal.Signal.{Signal}
-use Rattle.net_builder.specs.Building.{AllBelow, Building, IsSignal, PortsBelow, empty, signal, with_declared}
-use Rattle.flat_runs.specs.Meanings.{Meaning}
-use Rattle.flat_runs.specs.Designs.{Design}
-use Rattle.flat_runs.specs.Finishing.{Begins}
-use Rattle.flat_runs.proofs.Lists.{contains_cases, contains_none}
-use Rattle.flat_runs.specs.Parts.{StandsBelow}
 use Rattle.flat_runs.proofs.Growing.{declared_stand, empty_stands}
-use Rattle.flat_runs.proofs.Signals.{empty_owns}
-use Rattle.flat_items.specs.Flattened.{Flat}
-use Rattle.flat_instances.specs.Places.{Place}
-use Rattle.flat_instances.specs.declared.item.FlatItem.{FlatItem}
 use Rattle.flat_instances.specs.declared.item.FlatItem.TheVariants as f
-use Rattle.flat_laws.specs.Sound.{AllStand, AreSized, HasBits, IsSound, ItemStands, NamesSignal, PlaceStands}
-use Rattle.elab_items.specs.Designs.{register_of, registers_of, some_stores, width_in, widths_of}
-use Rattle.elab_items.specs.Laws.{DesignsBegin, SoundAreDeclared}
-use Rattle.elab_items.specs.Items.{Stands}
-use Rattle.elab_items.specs.Signals.{declared}
-use Rattle.elab_items.specs.Starts.{names_at, names_in}
 use Rattle.elab_items.proofs.Starting.{declared_start}
 use Rattle.elab_items.proofs.Declaring.{lengths, begun, owns, some_bits, widths_are, bits_width}
 
-counted : (ss : List Signal) → length (declared ss empty).signals ≡ length ss
+pub counted : (ss : List Signal) → length (declared ss empty).signals ≡ length ss
 counted ss = sym (length-map (declared ss empty).signals length) ∙ ap (λ (ns : List ℕ). length ns) (lengths ss empty) ∙ length-map ss bits_width
 
 below_at : (n : ℕ) (l : List (List Bit)) (k : ℕ) → PortsBelow n l → AllBelow n (slice_index_or l k [])
@@ -84,19 +64,19 @@ declared_stands flat h = (stands_declared flat h, declared_start flat.signals)
 register_one : (n m k : ℕ) (ms : List Meaning) (item : FlatItem) → ItemStands n m item → Contains (register_of ms item) k → k < n
 register_one n m k ms (f.Declares j) h c = go (some_stores ms j) c where
   go : (b : Bool) → Contains (if b then j ∷ [] else []) k → k < n
-  go true one = elim (contains_cases [] j k one) [ inl e ↦ subst (λ (i : ℕ). i < n) e h | inr none ↦ absurd (contains_none k none) ]
-  go false none = absurd (contains_none k none)
-register_one n m k ms (f.Assigns place left right) h c = absurd (contains_none k c)
-register_one n m k ms (f.Drives place net value) h c = absurd (contains_none k c)
-register_one n m k ms (f.Enters port place value) h c = absurd (contains_none k c)
-register_one n m k ms (f.Open port) h c = absurd (contains_none k c)
-register_one n m k ms (f.Leaves place value inside port) h c = absurd (contains_none k c)
-register_one n m k ms (f.Runs place p) h c = absurd (contains_none k c)
-register_one n m k ms (f.Starts number place value) h c = absurd (contains_none k c)
-register_one n m k ms (f.Refuses error) h c = absurd (contains_none k c)
+  go true one = elim (has_cases [] j k one) [ inl e ↦ subst (λ (i : ℕ). i < n) e h | inr none ↦ absurd (has_none k none) ]
+  go false none = absurd (has_none k none)
+register_one n m k ms (f.Assigns place left right) h c = absurd (has_none k c)
+register_one n m k ms (f.Drives place net value) h c = absurd (has_none k c)
+register_one n m k ms (f.Enters port place value) h c = absurd (has_none k c)
+register_one n m k ms (f.Open port) h c = absurd (has_none k c)
+register_one n m k ms (f.Leaves place value inside port) h c = absurd (has_none k c)
+register_one n m k ms (f.Runs place p) h c = absurd (has_none k c)
+register_one n m k ms (f.Starts number place value) h c = absurd (has_none k c)
+register_one n m k ms (f.Refuses error) h c = absurd (has_none k c)
 
 register_in : (n m k : ℕ) (ms : List Meaning) (items : List FlatItem) → AllStand n m items → Contains (registers_of ms items) k → k < n
-register_in n m k ms [] h c = absurd (contains_none k c)
+register_in n m k ms [] h c = absurd (has_none k c)
 register_in n m k ms (item ∷ more) h c = elim (Contains-append_cases (register_of ms item) (registers_of ms more) k c) [
   | inl here ↦ register_one n m k ms item h.0 here
   | inr later ↦ register_in n m k ms more h.1 later

@@ -1,40 +1,15 @@
 -- What stands of a builder from item to item, and what all items add.
-use Rattle.std.proofs.Common.{◌≡◌, ℕ, suc, ◌-◌, ◌<◌, ◌≤◌, Bool, List, [], ◌∷◌, ◌++◌, take, drop, get_or, length, Option, Some, None, refl, sym, ap, ◌∙◌, subst, arith}
-use Rattle.std.specs.Prelude.{slice_index_or, slice_get, option_map, option_to_list}
+use Rattle.elab_items.proofs.Common.{◌≡◌, ℕ, suc, ◌-◌, ◌<◌, ◌≤◌, Bool, List, [], ◌∷◌, ◌++◌, take, drop, get_or, length, Option, Some, None, refl, sym, ap, ◌∙◌, subst, arith, slice_index_or, slice_get}
+use Rattle.elab_items.proofs.Common.{option_map, option_to_list, Bit, Decl, Names, process_refusals, Start, Building, AllBelow, IsSignal, empty, signal, Meaning, AddsItems, IsReady, Flat, Place}
+use Rattle.elab_items.proofs.Common.{Clocks, FlatItem, Widths, AddsMeaning, widths_in, HasPlaces, Desk, Holds, names_at, names_in, start_error, AllMean, design_of, widths_of, declared, ItemsAreAdded}
+use Rattle.elab_items.proofs.Common.{AllStart, CanStart, Builds, Refuses, Stands, BuildsAll, below_later}
 use Rattle.std.proofs.Math.Seq.{take-length}
-use Rattle.netlist_core.specs.declared.bit.Bit.{Bit}
-use Rattle.vlog_meaning.specs.declared.scope.Decl.{Decl}
 use Rattle.vlog_meaning.specs.declared.scope.Decl.TheVariants.{Signal, Constant}
 use Rattle.vlog_meaning.specs.declared.fault.ConstError.{ConstError}
-use Rattle.vlog_meaning.specs.Scopes.{Names}
-use Rattle.elab_proc.specs.declared.refusal.Refusal.{Refusal}
-use Rattle.elab_proc.specs.Order.{IsFirst}
-use Rattle.process_latches.specs.Refused.{process_refusals}
-use Rattle.elab_items.specs.declared.error.Reason.TheVariants.{Found, Start}
-use Rattle.net_builder.specs.Building.{Building, AllBelow, IsSignal, empty, signal}
-use Rattle.flat_runs.specs.Meanings.{Meaning}
-use Rattle.flat_runs.specs.Adding.{AddsItems}
-use Rattle.flat_runs.proofs.Signals.{below_more}
-use Rattle.flat_assigns.specs.Built.{IsReady}
-use Rattle.flat_items.specs.Flattened.{Flat}
-use Rattle.flat_instances.specs.Places.{Place}
-use Rattle.flat_clocks.specs.Clocks.{Clocks}
-use Rattle.flat_instances.specs.declared.item.FlatItem.{FlatItem}
 use Rattle.flat_instances.specs.declared.item.FlatItem.TheVariants as f
 use Rattle.proc_muxes.specs.Working.{pending_of}
-use Rattle.process_cells.specs.Items.{Widths, AddsMeaning, widths_in}
-use Rattle.process_cells.specs.Ready.{HasPlaces}
-use Rattle.elab_items.specs.declared.desk.Desk.{Desk}
-use Rattle.elab_items.specs.Desks.{Holds}
-use Rattle.elab_items.specs.Starts.{names_at, names_in, start_error}
-use Rattle.elab_items.specs.Meanings.{AllMean}
-use Rattle.elab_items.specs.Designs.{design_of, widths_of}
-use Rattle.elab_items.specs.Signals.{declared}
-use Rattle.elab_items.specs.Laws.{ItemsAreAdded}
-use Rattle.elab_items.specs.Starting.{AllStart, CanStart}
-use Rattle.elab_items.specs.Items.{Builds, Refuses, Stands}
-use Rattle.elab_items.specs.Timed.{BuildsAll}
 use Rattle.elab_items.proofs.Declaring.{widths_are}
+use Rattle.elab_items.proofs.Assigning.{not_refused}
 
 -- the names of a scope that is there
 pub names_found : (places : List Place) (k : ℕ) (names : Names) → option_map (λ p. p.names) (slice_get places k) ≡ Some names → names_at places k ≡ names
@@ -48,7 +23,7 @@ same_signal old new None same le h = tt
 same_signal old new (Some (Constant value low is_signed)) same le h = tt
 same_signal old new (Some (Signal w low is_signed k)) same le h =
     let P : List (List Bit) → Type 0 = λ l. (k < length l) × (length (slice_index_or l k []) ≡ w) × AllBelow new.nets (slice_index_or l k []) in
-    subst P (sym same) (h.0, h.1, below_more old.nets new.nets (signal old k) le h.2)
+    subst P (sym same) (h.0, h.1, below_later old.nets new.nets (signal old k) le h.2)
 
 -- the builder has the same signals, and is ready
 stands_on : (places : List Place) (old new : Building) → new.signals ≡ old.signals → old.nets ≤ new.nets → IsReady new → Stands places old → Stands places new
@@ -70,7 +45,7 @@ builds_stand inputs places item old new b h = go b.meaning b.adds where
 waits_on : (old new : Building) (waiting : List (List Bit)) → new.signals ≡ old.signals → old.nets ≤ new.nets → HasPlaces old waiting → HasPlaces new waiting
 waits_on old new waiting same le h = record {
   count = h.count ∙ sym (ap (λ (l : List (List Bit)). length l) same);
-  below = λ n. below_more old.nets new.nets (pending_of waiting n) le (h.below n);
+  below = λ n. below_later old.nets new.nets (pending_of waiting n) le (h.below n);
 }
 
 pub builds_hold : (inputs : List Bool) (places : List Place) (item : FlatItem) (old new : Building) (desk : Desk) → Builds inputs places item old new → Holds places old desk → Holds places new desk
@@ -103,17 +78,13 @@ all_added inputs flat clocks (item ∷ more) old last h =
 
 -- Nothing is refused in the start values of items that are built.
 
-none_in : (x : Option Refusal) (xs : List Refusal) → IsFirst xs x → None ≡ option_map Found x → xs ≡ []
-none_in None xs h e = h
-none_in (Some r) xs h e = cc
-
 no_error : (x : Option ConstError) → None ≡ option_map Start x → x ≡ None
 no_error None e = refl
 no_error (Some k) e = cc
 
 start_accepted : (inputs : List Bool) (places : List Place) (item : FlatItem) (b : Building) → Refuses b inputs places item None → CanStart (widths_in b) places item
 start_accepted inputs places (f.Starts number k value) b h = no_error (start_error (names_at places k) value (widths_in b number)) h
-start_accepted inputs places (f.Runs k p) b h = (h.0, none_in h.1 (process_refusals (names_at places k) h.0 p) h.3 h.4)
+start_accepted inputs places (f.Runs k p) b h = (h.0, not_refused h.1 (process_refusals (names_at places k) h.0 p) h.3 h.4)
 start_accepted inputs places (f.Declares k) b h = tt
 start_accepted inputs places (f.Assigns k left right) b h = tt
 start_accepted inputs places (f.Drives k net value) b h = tt

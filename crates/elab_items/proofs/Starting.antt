@@ -1,24 +1,9 @@
 -- Start values are given one item after the other.
-use Rattle.std.proofs.Common.{◌≡◌, ◌≢◌, ◌⊎◌, inl, inr, ℕ, zero, suc, ◌<◌, ◌≤◌, ◌^◌, Bool, true, false, List, [], ◌∷◌, ◌++◌, get_or, set, length, None, refl, sym, ap, ◌∙◌, subst, arith, length-set, length-append, get_or-set_same, get_or-set_other}
-use Rattle.std.specs.Prelude.{nat_eq, if◌then◌else◌}
-use Rattle.std.proofs.lemmas.Bool.{cases_eq}
-use Rattle.std.proofs.lemmas.Bool.Decides.{nat_tests}
+use Rattle.elab_items.proofs.Common.{◌≡◌, ℕ, zero, suc, ◌≤◌, Bool, List, [], ◌∷◌, ◌++◌, get_or, length, None, refl, sym, ap, subst, arith, length-append, Expr, Process, Names, Store, nothing, Signal}
+use Rattle.elab_items.proofs.Common.{Building, empty, fresh_bits, signal, start_bits, with_declared, process_refusals, Widths, widths_in, SameButStarts, StartsWith, assigned_value, process_starts}
+use Rattle.elab_items.proofs.Common.{Place, FlatItem, Stands, declared, AllStart, CanStart, names_at, start_error, started, starts_from, with_value}
 use Rattle.std.proofs.lemmas.Nat.{pow_pos}
-use Rattle.vlog_syntax.specs.declared.expr.Expr.{Expr}
-use Rattle.vlog_syntax.specs.declared.item.Process.{Process}
-use Rattle.vlog_meaning.specs.Scopes.{Names, Store, nothing}
-use Rattle.flat_scopes.specs.declared.signal.Signal.{Signal}
-use Rattle.net_builder.specs.Building.{Building, empty, fresh_bits, signal, start_bits, with_declared, with_start}
-use Rattle.process_latches.specs.Refused.{process_refusals}
-use Rattle.process_cells.specs.Items.{Widths, widths_in}
-use Rattle.process_cells.specs.Starts.{SameButStarts, StartsWith, assigned_value, process_starts}
-use Rattle.flat_instances.specs.Places.{Place}
-use Rattle.flat_instances.specs.declared.item.FlatItem.{FlatItem}
 use Rattle.flat_instances.specs.declared.item.FlatItem.TheVariants as f
-use Rattle.elab_items.specs.Items.{Stands}
-use Rattle.elab_items.specs.Signals.{declared}
-use Rattle.elab_items.specs.Starting.{AllStart, CanStart}
-use Rattle.elab_items.specs.Starts.{names_at, start_error, started, starts_from, with_value}
 use Rattle.elab_items.proofs.Standing.{same_signal, widths_from}
 
 -- What stands of a builder does not rest on start values.
@@ -39,9 +24,6 @@ starts_stand places old new same h = subst (Stands places) (sym same) (stands_wi
 
 pub same_starts : (b : Building) → SameButStarts b b
 same_starts b = refl
-
-pub starts_after : (a b c : Building) → SameButStarts a b → SameButStarts b c → SameButStarts a c
-starts_after a b c first second = second ∙ ap (λ (x : Building). record x { starts = c.starts }) first
 
 pub same_widths : (old new : Building) → SameButStarts old new → widths_in new ≡ widths_in old
 same_widths old new same = widths_from old new (ap (λ (b : Building). b.signals) same)
@@ -76,29 +58,6 @@ declared_start ss = record {
 }
 
 -- One value.
-
-same_number : (k : ℕ) → nat_eq k k ≡ true
-same_number k = grind (arith, nat_tests)
-
-other_number : (j k : ℕ) → j ≢ k → nat_eq j k ≡ false
-other_number j k ne = grind (arith, nat_tests)
-
-pub value_started : (b : Building) (store : Store) (number v : ℕ) → number < length b.signals → v < 2 ^ length (signal b number) → StartsWith b store → StartsWith (with_start number v b) (with_value number v store)
-value_started b store number v known fits h = record {
-  count = length-set b.starts number v ∙ h.count;
-  start = λ k. value_at k (cases_eq k number);
-  fits = λ k. value_fits k (cases_eq k number);
-} where
-  there : number < length b.starts
-  there = subst (λ (n : ℕ). number < n) (sym h.count) known
-
-  value_at : (k : ℕ) → (k ≡ number) ⊎ (k ≢ number) → get_or (set b.starts number v) k 0 ≡ (if nat_eq k number then v else store k)
-  value_at k (inl e) = subst (λ (j : ℕ). get_or (set b.starts number v) j 0 ≡ (if nat_eq j number then v else store j)) (sym e) (get_or-set_same b.starts number v 0 there ∙ sym (ap (λ (t : Bool). if t then v else store number) (same_number number)))
-  value_at k (inr ne) = get_or-set_other b.starts number k v 0 ne ∙ h.start k ∙ sym (ap (λ (t : Bool). if t then v else store k) (other_number k number ne))
-
-  value_fits : (k : ℕ) → (k ≡ number) ⊎ (k ≢ number) → (if nat_eq k number then v else store k) < 2 ^ length (signal b k)
-  value_fits k (inl e) = subst (λ (j : ℕ). (if nat_eq j number then v else store j) < 2 ^ length (signal b j)) (sym e) (subst (λ (t : Bool). (if t then v else store number) < 2 ^ length (signal b number)) (sym (same_number number)) fits)
-  value_fits k (inr ne) = subst (λ (t : Bool). (if t then v else store k) < 2 ^ length (signal b k)) (sym (other_number k number ne)) (h.fits k)
 
 -- Items.
 

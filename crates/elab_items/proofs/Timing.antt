@@ -1,19 +1,8 @@
 -- The first of what is found in an item and of how it misuses the clock.
-use Rattle.std.proofs.Common.{◌≡◌, ◌≤◌, Bool, List, length, Option, Some, None, refl, subst}
-use Rattle.elab_proc.specs.declared.refusal.Refusal.{Refusal}
-use Rattle.elab_proc.specs.Order.{IsFirst}
-use Rattle.mcy_base.specs.declared.kind.Kind.{Kind}
-use Rattle.net_builder.specs.Building.{Building}
-use Rattle.net_builder.specs.Refusals.{max_cells}
-use Rattle.flat_items.specs.Flattened.{Flat}
-use Rattle.flat_instances.specs.declared.item.FlatItem.{FlatItem}
-use Rattle.flat_clocks.specs.Clocks.{Clocks}
+use Rattle.elab_items.proofs.Common.{◌≡◌, ◌≤◌, Bool, List, length, Option, Some, None, refl, subst, Refusal, IsFirst, Kind, Building, max_cells, Flat, FlatItem, Clocks, Refused, TooMany, Found}
+use Rattle.elab_items.proofs.Common.{Builds, Fails, BuildsTimed, FailsTimed, IsSooner}
 use Rattle.flat_clocks.specs.Refusals.{clock_refusals}
-use Rattle.elab_items.specs.declared.error.BuildError.TheVariants.{Refused, TooMany}
 use Rattle.elab_items.specs.declared.error.Reason.{Reason}
-use Rattle.elab_items.specs.declared.error.Reason.TheVariants.{Found}
-use Rattle.elab_items.specs.Items.{Builds, Fails}
-use Rattle.elab_items.specs.Timed.{BuildsTimed, FailsTimed, IsSooner}
 use Rattle.elab_items.proofs.Counting.{cells_fit}
 
 -- What is built and what is not, with the use of the clock.

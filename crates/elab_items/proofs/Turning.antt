@@ -1,18 +1,7 @@
 -- The turns of the first items of a design.
-use Rattle.std.proofs.Common.{◌≡◌, ℕ, zero, suc, ◌+◌, ◌-◌, ◌<◌, ◌≤◌, Bool, List, [], ◌∷◌, length, get_or, take, refl, sym, ap, ◌∙◌, subst, arith}
-use Rattle.std.specs.Prelude.{Option, None, Some, if◌then◌else◌}
-use Rattle.std.proofs.lemmas.Bool.{lt-ltb, le-ltb}
-use Rattle.vlog_syntax.specs.declared.item.Process.{Process}
-use Rattle.vlog_meaning.specs.Scopes.{Names}
-use Rattle.net_builder.specs.Building.{Building}
-use Rattle.loop_turns.specs.Counts.{IsLeft, process_turns}
-use Rattle.process_cells.specs.Ready.{HasPlaces}
-use Rattle.flat_instances.specs.Places.{Place}
-use Rattle.flat_instances.specs.declared.item.FlatItem.{FlatItem}
-use Rattle.elab_items.specs.declared.desk.Desk.{Desk}
-use Rattle.elab_items.specs.Desks.{AreCopies, HasFlags, Serves}
-use Rattle.elab_items.specs.Starts.{names_at}
-use Rattle.elab_items.specs.Turns.{IsPast, item_turns, turns_in, within}
+use Rattle.elab_items.proofs.Common.{◌≡◌, ℕ, zero, suc, ◌+◌, ◌-◌, ◌<◌, ◌≤◌, Bool, List, [], ◌∷◌, length, get_or, take, refl, sym, ap, ◌∙◌, subst, arith, if◌then◌else◌, lt-ltb, le-ltb, Process, Names}
+use Rattle.elab_items.proofs.Common.{Building, IsLeft, process_turns, HasPlaces, Place, FlatItem, Desk, AreCopies, HasFlags, Serves, names_at, IsPast, item_turns, turns_in, within}
+use Rattle.std.specs.Prelude.{Option, None, Some}
 
 -- a process of a scope has the turns that it has in its names
 pub run_counted : (places : List Place) (k : ℕ) (p : Process) (names : Names) (left : ℕ) (o : Option ℕ) → names_at places k ≡ names → IsLeft (process_turns names p) left o → IsLeft (process_turns (names_at places k) p) left o

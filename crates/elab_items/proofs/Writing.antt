@@ -1,9 +1,6 @@
 -- Which signals have a writer, told one after the other.
-use Rattle.std.proofs.Common.{◌≡◌, ◌≢◌, ◌⊎◌, ◌↔◌, inl, inr, ℕ, ◌<◌, Bool, false, IsTrue, List, [], ◌∷◌, ◌++◌, get_or, length, sym, ◌∙◌, subst, arith, length-append}
-use Rattle.std.proofs.lemmas.Bool.{cases_eq}
-use Rattle.std.proofs.lemmas.List.{get_or_append_left, get_or_push}
-use Rattle.net_builder.specs.Building.{Building}
-use Rattle.elab_items.specs.Writers.{HasWriter}
+use Rattle.elab_items.proofs.Common.{◌≡◌, ◌≢◌, ◌⊎◌, ◌↔◌, inl, inr, ℕ, ◌<◌, Bool, false, IsTrue, List, [], ◌∷◌, ◌++◌, get_or, length, sym, ◌∙◌, subst, arith, length-append, cases_eq}
+use Rattle.elab_items.proofs.Common.{get_or_append_left, get_or_push, Building, HasWriter}
 
 pub tell_more : (b : Building) (inputs written : List Bool) (w : Bool) (n : ℕ) → n ≡ length written → ((k : ℕ) → k < length written → IsTrue (get_or written k false) ↔ HasWriter b inputs k) → (IsTrue w ↔ HasWriter b inputs n)
     → (k : ℕ) → k < length (written ++ w ∷ []) → IsTrue (get_or (written ++ w ∷ []) k false) ↔ HasWriter b inputs k

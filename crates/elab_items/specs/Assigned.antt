@@ -28,6 +28,8 @@ item_targets places other = []
 abbrev pub process_writes : Names → Process → List Write
 process_writes names p = writes (sound (process_steps names p))
 
+-- For proofs alone.
+
 -- the numbers of the signals that an item gives a value
 abbrev pub item_numbers : List Place → FlatItem → List ℕ
 item_numbers places (f.Enters port k value) = port ∷ []

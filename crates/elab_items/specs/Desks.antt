@@ -28,7 +28,7 @@ pub record Serves (inputs : List Bool) (places : List Place) (b : Building) (des
   pub holds : Holds places b desk
   pub flags : HasFlags b inputs desk.written.items
 
--- The code's parts.
+-- For proofs alone.
 
 -- each flag that is set tells of a signal that has a writer
 abbrev pub AreSound : Building → List Bool → List Bool → Type 0

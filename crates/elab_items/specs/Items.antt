@@ -150,7 +150,7 @@ Fails inputs places item old (Refused reason) = Refuses old inputs places item (
 Fails inputs places item old (TooMany kind) = Refuses old inputs places item None × IsShort (length old.cells + cell_count (widths_in old) places item) (TooMany kind)
 Fails inputs places item old Memory = Unit {0}
 
--- The code's parts.
+-- For proofs alone.
 
 -- An assignment is built whose sides are read in the names of two scopes, and nothing is refused in it.
 abbrev pub BuildsSides : List Bool → Names → LeftSide → Names → Expr → Building → Building → Type 0

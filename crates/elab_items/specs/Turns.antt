@@ -23,8 +23,6 @@ abbrev pub within : List Place → (left : ℕ) → List FlatItem → List FlatI
 within places left [] = []
 within places left (item ∷ more) = if nat_lt left (item_turns places item) then [] else item ∷ within places (left - item_turns places item) more
 
--- The code's parts.
-
 -- so many items stand before the first one with which there are more turns, or there are not more
 abbrev pub IsPast : List Place → (left : ℕ) → List FlatItem → Option ℕ → Type 0
 IsPast places left items None = turns_in places items ≤ left

@@ -1,19 +1,11 @@
 -- Each bit that an item joins is one of its left sides.
-use Rattle.std.proofs.Common.{◌≡◌, inl, inr, ℕ, ◌+◌, ◌<◌, ◌≤◌, List, [], ◌∷◌, map, Option, Some, None, refl, sym, ap, ◌∙◌, subst, arith}
-use Rattle.std.specs.Prelude.{slice_get}
-use Rattle.std.specs.List.{Contains}
+use Rattle.elab_lefts.proofs.Common.{◌≡◌, inl, inr, ℕ, ◌+◌, ◌<◌, ◌≤◌, List, [], ◌∷◌, map, Option, Some, None, refl, sym, ap, ◌∙◌, subst, arith, slice_get, Contains, Signal, Slice, all_places, Target}
+use Rattle.elab_lefts.proofs.Common.{targets, Left, widths_of, width_in, bit_left, port_left, port_lefts, whole_left, write_left, has_cases, has_first, has_more, has_none}
 use Rattle.mcy_base.specs.declared.span.Span.{Span}
 use Rattle.process_latches.specs.declared.marks.Write.{Write}
-use Rattle.flat_scopes.specs.declared.signal.Signal.{Signal}
 use Rattle.flat_runs.specs.Meanings.{Place}
 use Rattle.flat_runs.specs.Parts.{places_from}
-use Rattle.flat_runs.proofs.Lists.{contains_cases, contains_first, contains_more, contains_none}
-use Rattle.flat_assigns.specs.Sides.{Slice, all_places}
-use Rattle.flat_assigns.specs.Writers.{Target, targets}
-use Rattle.elab_finish.specs.declared.left.Left.{Left}
-use Rattle.elab_items.specs.Designs.{widths_of, width_in}
 use Rattle.elab_items.proofs.Assigning.{contains_map, places_met, port_is}
-use Rattle.elab_lefts.specs.Lefts.{bit_left, port_left, port_lefts, whole_left, write_left}
 
 -- bit i of signal k is one of those of a left side
 pub record HasBit (left : Left) (k i : ℕ) : Type 0 where
@@ -42,14 +34,14 @@ port_in : (signals : List Signal) (n k i : ℕ) (o : Option Signal) → slice_ge
 port_in signals n k i None is e less =
     let none : widths_of signals k ≡ 0 = ap (widths_of signals) (sym e) ∙ ap width_in is in
     absurd (omega (arith, less, none))
-port_in signals n k i (Some s) is e less = (whole_left signals s.span n, contains_first [] (whole_left signals s.span n), whole_bit signals s.span n k i e less)
+port_in signals n k i (Some s) is e less = (whole_left signals s.span n, has_first [] (whole_left signals s.span n), whole_bit signals s.span n k i e less)
 
 pub port_found : (signals : List Signal) (n w k i : ℕ) → Contains (places_from n 0 w) (Some (record { signal = k; bit = i })) → i < widths_of signals k → Found (port_lefts signals n) k i
 port_found signals n w k i c less = port_in signals n k i (slice_get signals n) refl (port_is n 0 w k i c) less
 
 pub writes_found : (signals : List Signal) (ws : List Write) (k i : ℕ) → Contains (map (λ (w : Write). w.number) ws) k → i < widths_of signals k → Found (map (write_left signals) ws) k i
-writes_found signals [] k i c less = absurd (contains_none k c)
-writes_found signals (w ∷ more) k i c less = elim (contains_cases (map (λ (x : Write). x.number) more) w.number k c) [
-  | inl e ↦ (write_left signals w, contains_first (map (write_left signals) more) (write_left signals w), whole_bit signals w.place w.number k i e less)
-  | inr m ↦ let h = writes_found signals more k i m less in (h.0, contains_more (map (write_left signals) more) (write_left signals w) h.0 h.1, h.2)
+writes_found signals [] k i c less = absurd (has_none k c)
+writes_found signals (w ∷ more) k i c less = elim (has_cases (map (λ (x : Write). x.number) more) w.number k c) [
+  | inl e ↦ (write_left signals w, has_first (map (write_left signals) more) (write_left signals w), whole_bit signals w.place w.number k i e less)
+  | inr m ↦ let h = writes_found signals more k i m less in (h.0, has_more (map (write_left signals) more) (write_left signals w) h.0 h.1, h.2)
 ]

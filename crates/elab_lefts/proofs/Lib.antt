@@ -1,4 +1,4 @@
-pub mod Processes
+mod Common
 pub mod Scopes
 pub mod Found
 pub mod Covering

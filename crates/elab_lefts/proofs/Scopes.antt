@@ -1,26 +1,12 @@
 -- The scopes of a design while its left sides are listed, and lists of items.
-use Rattle.std.proofs.Common.{◌≡◌, ℕ, suc, ◌+◌, ◌<◌, List, [], ◌++◌, map, Option, None, Some, get_or, take, set, length, sym, ap, ◌∙◌, arith}
+use Rattle.elab_lefts.proofs.Common.{◌≡◌, ℕ, suc, ◌+◌, ◌<◌, List, [], ◌++◌, map, Option, None, Some, get_or, take, set, length, sym, ap, ◌∙◌, arith, flat_map, Process, Names, names_of, empty}
+use Rattle.elab_lefts.proofs.Common.{AreSized, Flat, Signal, Place, FlatItem, Left, Target, AreCopies, declared, names_at, bit_left, item_lefts, port_left, process_lefts}
 use Rattle.std.proofs.lemmas.List.{append-nil}
-use Rattle.std.specs.List.{flat_map}
-use Rattle.vlog_syntax.specs.declared.item.Process.{Process}
 use Rattle.vlog_meaning.specs.declared.scope.Decl.{Decl}
-use Rattle.vlog_meaning.specs.Scopes.{Names, names_of}
-use Rattle.net_builder.specs.Building.{empty}
-use Rattle.elab_proc.specs.Refusals.{AreSized}
 use Rattle.elab_proc.proofs.Lists.{flat_take}
 use Rattle.flat_laws.specs.Sound.{IsSound}
-use Rattle.flat_items.specs.Flattened.{Flat}
-use Rattle.flat_scopes.specs.declared.signal.Signal.{Signal}
-use Rattle.flat_instances.specs.Places.{Place}
-use Rattle.flat_instances.specs.declared.item.FlatItem.{FlatItem}
-use Rattle.elab_finish.specs.declared.left.Left.{Left}
-use Rattle.flat_assigns.specs.Writers.{Target}
-use Rattle.elab_items.specs.Desks.{AreCopies}
-use Rattle.elab_items.specs.Signals.{declared}
-use Rattle.elab_items.specs.Starts.{names_at}
 use Rattle.elab_items.proofs.Running.{copies_kept, scope_is, sized_as}
 use Rattle.elab_items.proofs.Sounding.{declared_stands}
-use Rattle.elab_lefts.specs.Lefts.{bit_left, item_lefts, port_left, process_lefts}
 
 -- the copy of a scope of a sound design has signals of 1 to 128 bits
 pub copy_sized : (flat : Flat) (scopes : List (List (List ℕ × Decl))) (k : ℕ) (s : List (List ℕ × Decl)) → IsSound flat → AreCopies flat.places scopes → k < length scopes → s ≡ get_or scopes k s → AreSized (names_of s)

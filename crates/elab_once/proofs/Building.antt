@@ -1,19 +1,10 @@
 -- What items leave that are built in builders that are alike is alike.
-use Rattle.std.proofs.Common.{◌≡◌, ◌⊎◌, inl, inr, ℕ, ◌<◌, Bool, List, [], ◌∷◌, length, Option, None, Some, sym, ap, ◌∙◌, subst}
-use Rattle.std.specs.Prelude.{slice_index_or}
+use Rattle.elab_once.proofs.Common.{◌≡◌, ◌⊎◌, inl, inr, ℕ, ◌<◌, Bool, List, [], ◌∷◌, length, Option, None, Some, sym, ap, ◌∙◌, subst, slice_index_or, Bit, Building, signal, Meaning, Writes, Widths}
+use Rattle.elab_once.proofs.Common.{AddsMeaning, widths_in, Place, FlatItem, Builds, AreAlike, BeginAlike, BuiltAlike}
 use Rattle.std.proofs.lemmas.Option.{slice_get_within}
-use Rattle.netlist_core.specs.declared.bit.Bit.{Bit}
 use Rattle.netlist_core.specs.declared.bit.Bit.TheVariants.{Net}
-use Rattle.net_builder.specs.Building.{Building, signal}
-use Rattle.flat_runs.specs.Meanings.{Meaning, Writes}
 use Rattle.flat_runs.specs.Adding.{IsWritten, AddsItem}
-use Rattle.process_cells.specs.Items.{Widths, AddsMeaning, widths_in}
-use Rattle.flat_instances.specs.Places.{Place}
-use Rattle.flat_instances.specs.declared.item.FlatItem.{FlatItem}
-use Rattle.elab_items.specs.Items.{Builds}
 use Rattle.elab_items.specs.Meanings.{Means}
-use Rattle.elab_once.specs.Alike.{AreAlike}
-use Rattle.elab_once.specs.Laws.{BeginAlike, BuiltAlike}
 use Rattle.elab_once.proofs.Meaning.{means_once}
 use Rattle.elab_once.proofs.Sides.{turned}
 
@@ -56,10 +47,3 @@ pub built_alike : BuiltAlike
 built_alike inputs flat clocks [] b c last end h d e = subst (λ (x : Building). AreAlike x end) (sym d) (subst (AreAlike b) (sym e) h)
 built_alike inputs flat clocks (item ∷ more) b c last end h (mid, d, rest) (there, e, others) =
     built_alike inputs flat clocks more mid there last end (built_one inputs flat.places item b c mid there h d.builds e.builds) rest others
-
--- the signals are those before
-pub signals_kept : (inputs : List Bool) (places : List Place) (item : FlatItem) (b next : Building) → Builds inputs places item b next → next.signals ≡ b.signals
-signals_kept inputs places item b next d = go d.meaning d.adds where
-  go : (m : Option Meaning) → AddsMeaning b next m → next.signals ≡ b.signals
-  go None a = ap (λ (x : Building). x.signals) a
-  go (Some m) a = a.signals

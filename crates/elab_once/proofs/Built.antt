@@ -1,7 +1,6 @@
 -- What is built of items is what they lay, so it is one.
-use Rattle.std.proofs.Common.{[], ◌∷◌, sym, ap, ◌∙◌}
+use Rattle.elab_once.proofs.Common.{[], ◌∷◌, sym, ap, ◌∙◌, BuiltOnce, ItemsAreLaid}
 use Rattle.elab_items.specs.Laid.{lay_items}
-use Rattle.elab_once.specs.Laws.{BuiltOnce, ItemsAreLaid}
 
 pub items_laid : ItemsAreLaid
 items_laid inputs flat clocks [] b last h = h

@@ -1,3 +1,4 @@
+mod Common
 pub mod Sides
 pub mod Writing
 pub mod Steps

@@ -1,19 +1,9 @@
 -- What an item means is one, and so is the design that a flattened design is.
-use Rattle.std.proofs.Common.{◌≡◌, List, [], ◌∷◌, ◌++◌, Option, Some, sym, ap, ◌∙◌}
-use Rattle.std.specs.Prelude.{option_to_list}
+use Rattle.elab_once.proofs.Common.{◌≡◌, List, [], ◌∷◌, ◌++◌, Option, Some, sym, ap, ◌∙◌, option_to_list, LeftSide, left_once, Meaning, assignment, Widths, Place, FlatItem, names_at, HasOneMeaning}
 use Rattle.vlog_syntax.specs.declared.expr.Expr.TheVariants as e
-use Rattle.vlog_syntax.specs.declared.left_side.LeftSide.{LeftSide}
-use Rattle.elab_proc.proofs.Forms.{left_once}
-use Rattle.flat_runs.specs.Meanings.{Meaning}
-use Rattle.flat_assigns.specs.Assignments.{assignment}
-use Rattle.process_cells.specs.Items.{Widths}
-use Rattle.flat_instances.specs.Places.{Place}
-use Rattle.flat_instances.specs.declared.item.FlatItem.{FlatItem}
 use Rattle.flat_instances.specs.declared.item.FlatItem.TheVariants as f
 use Rattle.elab_items.specs.Designs.{design_of, widths_of}
 use Rattle.elab_items.specs.Meanings.{AllMean, Means}
-use Rattle.elab_items.specs.Starts.{names_at}
-use Rattle.elab_once.specs.Laws.{HasOneMeaning}
 
 pub means_once : (width : Widths) (places : List Place) (item : FlatItem) (m n : Option Meaning) → Means width places item m → Means width places item n → m ≡ n
 means_once width places (f.Declares k) m n d o = d ∙ sym o

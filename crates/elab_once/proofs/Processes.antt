@@ -1,29 +1,17 @@
 -- The first refusal of a process is one in builders that are alike.
-use Rattle.std.proofs.Common.{◌≡◌, Bool, true, false, List, ◌++◌, Option, refl, sym, ap, ◌∙◌, subst}
-use Rattle.std.specs.Prelude.{option_map}
-use Rattle.mcy_base.specs.declared.span.Span.{Span}
-use Rattle.netlist_core.specs.declared.bit.Bit.{Bit}
+use Rattle.elab_once.proofs.Common.{◌≡◌, Bool, true, false, List, ◌++◌, Option, refl, sym, ap, ◌∙◌, subst, option_map, Span, Bit, Stmt, out-Stmt, Names, steps_of, Building, Refusal, first_once}
+use Rattle.elab_once.proofs.Common.{Reason, Found, RefusesProcess, AreAlike}
 use Rattle.vlog_syntax.specs.declared.item.Process.{Process}
 use Rattle.vlog_syntax.specs.declared.stmt.CaseItem.{CaseItem}
 use Rattle.vlog_syntax.specs.declared.stmt.EventControl.{EventControl}
-use Rattle.vlog_syntax.specs.declared.stmt.Stmt.{Stmt, out-Stmt}
 use Rattle.vlog_syntax.specs.declared.stmt.Stmt.TheOpen as s
 use Rattle.vlog_syntax.specs.declared.stmt.Stmt.TheOpen.{Stmt-F}
-use Rattle.vlog_meaning.specs.Scopes.{Names}
-use Rattle.vlog_effects.specs.Steps.{steps_of}
-use Rattle.net_builder.specs.Building.{Building}
-use Rattle.elab_proc.specs.declared.refusal.Refusal.{Refusal}
 use Rattle.elab_proc.specs.Order.{IsFirst}
-use Rattle.elab_proc.proofs.Order.{first_once}
 use Rattle.process_events.specs.Events.{Sensitivity, Once, Combinational, Clocked, Refused, sensitivity}
 use Rattle.process_latches.specs.Mixed.{mixed_refusals}
 use Rattle.process_latches.specs.Refused.{body_refusals, control_refusals, latch_refusals, process_refusals, refusals_by, waiting_refusals}
 use Rattle.process_latches.specs.Sound.{sound}
 use Rattle.process_latches.specs.Writes.{writes}
-use Rattle.elab_items.specs.declared.error.Reason.{Reason}
-use Rattle.elab_items.specs.declared.error.Reason.TheVariants.{Found}
-use Rattle.elab_items.specs.Items.{RefusesProcess}
-use Rattle.elab_once.specs.Alike.{AreAlike}
 use Rattle.elab_once.proofs.Steps.{AreKnown, TellSame, statement_once}
 use Rattle.elab_once.proofs.Writing.{told_once}
 

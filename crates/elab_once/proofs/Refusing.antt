@@ -1,28 +1,10 @@
 -- The first refusal of an item is one in builders that are alike.
-use Rattle.std.proofs.Common.{◌≡◌, ℕ, Bool, List, [], ◌∷◌, length, Option, None, Some, sym, ap, ◌∙◌, subst}
-use Rattle.std.specs.Prelude.{option_map, slice_index_or}
-use Rattle.netlist_core.specs.declared.bit.Bit.{Bit}
-use Rattle.vlog_syntax.specs.declared.expr.Expr.{Expr}
+use Rattle.elab_once.proofs.Common.{◌≡◌, ℕ, Bool, List, [], ◌∷◌, length, Option, None, Some, sym, ap, ◌∙◌, subst, option_map, slice_index_or, Bit, Expr, LeftSide, least, Names, Building, Refusal}
+use Rattle.elab_once.proofs.Common.{left_once, first_once, widths_in, Place, FlatItem, Reason, Listed, Found, Start, Refuses, RefusesSides, wrong_value, names_at, start_error, IsSooner, AreAlike}
 use Rattle.vlog_syntax.specs.declared.expr.Expr.TheVariants as e
-use Rattle.vlog_syntax.specs.declared.left_side.LeftSide.{LeftSide}
 use Rattle.vlog_syntax.specs.declared.left_side.LeftSide.TheVariants as l
-use Rattle.vlog_meaning.specs.Answers.{least}
-use Rattle.vlog_meaning.specs.Scopes.{Names}
-use Rattle.net_builder.specs.Building.{Building}
-use Rattle.elab_proc.specs.declared.refusal.Refusal.{Refusal}
-use Rattle.elab_proc.proofs.Forms.{left_once}
-use Rattle.elab_proc.proofs.Order.{first_once}
 use Rattle.flat_assigns.specs.Values.{right_refusals}
-use Rattle.process_cells.specs.Items.{widths_in}
-use Rattle.flat_instances.specs.Places.{Place}
-use Rattle.flat_instances.specs.declared.item.FlatItem.{FlatItem}
 use Rattle.flat_instances.specs.declared.item.FlatItem.TheVariants as f
-use Rattle.elab_items.specs.declared.error.Reason.{Reason}
-use Rattle.elab_items.specs.declared.error.Reason.TheVariants.{Listed, Found, Start}
-use Rattle.elab_items.specs.Items.{Refuses, RefusesSides, wrong_value}
-use Rattle.elab_items.specs.Starts.{names_at, start_error}
-use Rattle.elab_items.specs.Timed.{IsSooner}
-use Rattle.elab_once.specs.Alike.{AreAlike}
 use Rattle.elab_once.proofs.Processes.{found_once, process_once}
 use Rattle.elab_once.proofs.Sides.{sides_once}
 use Rattle.elab_once.proofs.Steps.{AreKnown}

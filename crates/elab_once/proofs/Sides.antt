@@ -1,20 +1,10 @@
 -- The first refusal of an assignment is one in builders that are alike.
-use Rattle.std.proofs.Common.{◌≡◌, inl, inr, Bool, List, [], ◌∷◌, ◌++◌, Option, sym, ap, ◌∙◌}
-use Rattle.std.specs.Prelude.{option_map}
-use Rattle.vlog_syntax.specs.declared.expr.Expr.{Expr}
-use Rattle.vlog_syntax.specs.declared.left_side.LeftSide.{LeftSide}
-use Rattle.vlog_meaning.specs.Answers.{least}
-use Rattle.vlog_meaning.specs.Scopes.{Names}
-use Rattle.vlog_effects.specs.LeftSides.{parts_of}
-use Rattle.net_builder.specs.Building.{Building}
+use Rattle.elab_once.proofs.Common.{◌≡◌, inl, inr, Bool, List, [], ◌∷◌, ◌++◌, Option, sym, ap, ◌∙◌, option_map, Expr, LeftSide, least, Names, parts_of, Building, IsRefusal, assignment_faults}
+use Rattle.elab_once.proofs.Common.{first_refusal, Reason, RefusesSides, found_in, AreAlike}
 use Rattle.flat_runs.specs.Meanings.{Place}
 use Rattle.flat_assigns.specs.declared.refusal.Refusal.{Refusal}
-use Rattle.flat_assigns.specs.Assignments.{IsRefusal, assignment_faults, first_refusal}
 use Rattle.flat_assigns.specs.Sides.{slices}
 use Rattle.flat_assigns.specs.Writers.{Target, targets, HasWriter, IsFirstWritten}
-use Rattle.elab_items.specs.declared.error.Reason.{Reason}
-use Rattle.elab_items.specs.Items.{RefusesSides, found_in}
-use Rattle.elab_once.specs.Alike.{AreAlike}
 
 pub turned : (b c : Building) → AreAlike b c → AreAlike c b
 turned b c h = record { signals = sym h.signals; written = λ k i. ((h.written k i).1, (h.written k i).0) }

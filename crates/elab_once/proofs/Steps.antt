@@ -1,20 +1,12 @@
 -- What is refused in steps rests on the writers of signals alone that names of the steps stand for.
-use Rattle.std.proofs.Common.{◌≡◌, ℕ, ◌+◌, ◌<◌, Bool, true, false, List, [], ◌∷◌, ◌++◌, map, length, Option, None, Some, refl, ap, ◌∙◌, arith}
-use Rattle.std.specs.Prelude.{slice_index_or, if◌then◌else◌}
+use Rattle.elab_once.proofs.Common.{◌≡◌, ℕ, ◌+◌, ◌<◌, Bool, true, false, List, [], ◌∷◌, ◌++◌, map, length, Option, None, Some, refl, ap, ◌∙◌, arith, slice_index_or, if◌then◌else◌, Span, Bit, Stmt}
+use Rattle.elab_once.proofs.Common.{Decl, Signal, Constant, Names, Part, parts_of, Assigning, Steps, Done, Assign, Choose, Case, Refuse, Arms, Otherwise, Arm, steps_of, Refusal}
 use Rattle.std.specs.List.{flat_map}
-use Rattle.mcy_base.specs.declared.span.Span.{Span}
-use Rattle.netlist_core.specs.declared.bit.Bit.{Bit}
-use Rattle.vlog_syntax.specs.declared.stmt.Stmt.{Stmt}
 use Rattle.vlog_meaning.specs.declared.fault.Fault.{Fault}
-use Rattle.vlog_meaning.specs.declared.scope.Decl.{Decl}
-use Rattle.vlog_meaning.specs.declared.scope.Decl.TheVariants.{Signal, Constant}
-use Rattle.vlog_meaning.specs.Scopes.{Names}
-use Rattle.vlog_effects.specs.LeftSides.{Part, parts_of}
-use Rattle.vlog_effects.specs.Steps.{Assigning, Steps, Done, Assign, Choose, Case, Refuse, Arms, Otherwise, Arm, steps_of}
 use Rattle.vlog_effects.proofs.Sizes.{IsSized, AreSized, Sized, SizedArms, sized-steps}
-use Rattle.elab_proc.specs.declared.refusal.Refusal.{Refusal}
 use Rattle.elab_proc.specs.declared.refusal.Refusal.TheVariants.{Wrong, TwoWriters}
-use Rattle.elab_proc.specs.Refusals.{sides_faults, same_form, is_written, name_refusals, part_refusals, kind_refusals, assign_refusals, own_faults, case_faults, flaw_refusal, case_refusals, step_refusals, arm_refusals}
+use Rattle.elab_proc.specs.Refusals.{sides_faults, same_form, is_written, name_refusals, part_refusals, kind_refusals, assign_refusals, own_faults, case_faults, flaw_refusal, case_refusals}
+use Rattle.elab_proc.specs.Refusals.{step_refusals, arm_refusals}
 
 -- a declared signal is one of these, with its width
 abbrev pub IsKnown : List (List Bit) → Option Decl → Type 0

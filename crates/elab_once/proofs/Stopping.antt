@@ -1,24 +1,13 @@
 -- Items are all built, or refused in one way.
-use Rattle.std.proofs.Common.{◌≡◌, inl, inr, ℕ, Bool, List, [], ◌∷◌, Option, None, Some, refl, sym, subst}
-use Rattle.netlist_core.specs.declared.bit.Bit.{Bit}
-use Rattle.vlog_meaning.specs.declared.scope.Decl.{Decl}
-use Rattle.vlog_meaning.specs.declared.scope.Decl.TheVariants.{Signal, Constant}
-use Rattle.net_builder.specs.Building.{Building, IsSignal}
-use Rattle.flat_instances.specs.Places.{Place}
-use Rattle.flat_instances.specs.declared.item.FlatItem.{FlatItem}
+use Rattle.elab_once.proofs.Common.{◌≡◌, inl, inr, ℕ, Bool, List, [], ◌∷◌, Option, None, Some, refl, sym, subst, Bit, Decl, Signal, Constant, Building, IsSignal, Place, FlatItem, Reason, Stands}
+use Rattle.elab_once.proofs.Common.{names_at, BuildsAll, BuildsTimed, FailsSome, FailsTimed, RefusesTimed, AreAlike, BuiltOrRefused, RefusedOnce, StopsOnce, builds_signals}
 use Rattle.flat_items.specs.Flattened.{Flat}
 use Rattle.flat_clocks.specs.Clocks.{Clocks}
 use Rattle.flat_clocks.specs.Refusals.{clock_refusals}
 use Rattle.elab_items.specs.declared.error.BuildError.{BuildError}
 use Rattle.elab_items.specs.declared.error.BuildError.TheVariants.{Refused, TooMany, Memory}
-use Rattle.elab_items.specs.declared.error.Reason.{Reason}
-use Rattle.elab_items.specs.Items.{Stands}
-use Rattle.elab_items.specs.Starts.{names_at}
-use Rattle.elab_items.specs.Timed.{BuildsAll, BuildsTimed, FailsSome, FailsTimed, RefusesTimed}
-use Rattle.elab_once.specs.Alike.{AreAlike}
-use Rattle.elab_once.specs.Laws.{BuiltOrRefused, RefusedOnce, StopsOnce}
 use Rattle.elab_once.specs.Reasons.{AreOneAnswer, IsLimit}
-use Rattle.elab_once.proofs.Building.{built_one, signals_kept}
+use Rattle.elab_once.proofs.Building.{built_one}
 use Rattle.elab_once.proofs.Refusing.{refuses_once, sooner_once}
 use Rattle.elab_once.proofs.Sides.{turned}
 use Rattle.elab_once.proofs.Steps.{AreKnown, IsKnown}
@@ -59,7 +48,7 @@ not_refused inputs flat clocks item b c next (TooMany kind) h known d e = tt
 not_refused inputs flat clocks item b c next Memory h known d e = tt
 
 known_on : (inputs : List Bool) (flat : Flat) (clocks : Clocks) (item : FlatItem) (b next : Building) → BuildsTimed inputs flat clocks item b next → ScopesKnown flat.places b.signals → ScopesKnown flat.places next.signals
-known_on inputs flat clocks item b next d known = subst (ScopesKnown flat.places) (sym (signals_kept inputs flat.places item b next d.builds)) known
+known_on inputs flat clocks item b next d known = subst (ScopesKnown flat.places) (sym (builds_signals inputs flat.places item b next d.builds)) known
 
 either : (inputs : List Bool) (flat : Flat) (clocks : Clocks) (items : List FlatItem) (b c last : Building) (error : BuildError)
     → AreAlike b c → ScopesKnown flat.places b.signals → BuildsAll inputs flat clocks items b last → FailsSome inputs flat clocks items c error → IsLimit error

@@ -1,13 +1,9 @@
 -- Builders that are alike have the same signals with a writer.
-use Rattle.std.proofs.Common.{◌≡◌, ◌⊎◌, inl, inr, ℕ, zero, suc, ◌<◌, Bool, true, false, IsTrue, List, [], ◌∷◌, length, slice_get, Some, refl, sym, subst}
-use Rattle.std.proofs.lemmas.Option.{none-some}
-use Rattle.netlist_core.specs.declared.bit.Bit.{Bit}
+use Rattle.elab_once.proofs.Common.{◌≡◌, ◌⊎◌, inl, inr, ℕ, suc, ◌<◌, Bool, true, false, IsTrue, List, [], ◌∷◌, length, slice_get, Some, refl, sym, subst, Bit, Building, signal, AreAlike, at_some}
 use Rattle.netlist_core.specs.declared.bit.Bit.TheVariants.{Fixed, Net}
-use Rattle.net_builder.specs.Building.{Building, signal}
 use Rattle.net_builder.specs.Written.{IsJoined, IsStored}
 use Rattle.elab_proc.specs.Refusals.{is_written}
-use Rattle.elab_items.specs.Writers.{HasWriter, IsBitWritten, SomeBitWritten, TellsWriters}
-use Rattle.elab_once.specs.Alike.{AreAlike}
+use Rattle.elab_items.specs.Writers.{HasWriter, SomeBitWritten, TellsWriters}
 use Rattle.elab_once.proofs.Sides.{turned}
 
 bit_of : (b : Building) (xs : List Bit) → SomeBitWritten b xs → (i : ℕ) × (n : ℕ) × (slice_get xs i ≡ Some (Net n)) × (IsJoined b n ⊎ IsStored b n)
@@ -16,17 +12,12 @@ bit_of b (Net n ∷ more) (inl h) = (0, n, refl, h)
 bit_of b (Fixed v ∷ more) (inl h) = absurd h
 bit_of b (x ∷ more) (inr h) = let t = bit_of b more h in (suc t.0, t.1, t.2, t.3)
 
-of_bit : (b : Building) (xs : List Bit) (i n : ℕ) → slice_get xs i ≡ Some (Net n) → IsJoined b n ⊎ IsStored b n → SomeBitWritten b xs
-of_bit b [] i n e w = absurd (none-some (Net n) e)
-of_bit b (x ∷ more) zero n e w = let same : Net n ≡ x = cc in inl (subst (IsBitWritten b) same w)
-of_bit b (x ∷ more) (suc i) n e w = inr (of_bit b more i n e w)
-
 has_writer : (b c : Building) (inputs : List Bool) (k : ℕ) → AreAlike b c → HasWriter b inputs k → HasWriter c inputs k
 has_writer b c inputs k h (inl x) = inl x
 has_writer b c inputs k h (inr x) =
     let t = bit_of b (signal b k) x in
     let w = (h.written k t.0).0 (t.1, t.2, t.3) in
-    inr (of_bit c (signal c k) t.0 w.0 w.1 w.2)
+    inr (at_some c (signal c k) t.0 w.0 w.1 w.2)
 
 flags_same : (x y : Bool) → (IsTrue x → IsTrue y) → (IsTrue y → IsTrue x) → x ≡ y
 flags_same true true f g = refl

@@ -1,17 +1,14 @@
 -- Left sides of the same form are the same.
-use Rattle.std.proofs.Common.{◌≡◌, List, [], ◌∷◌, map, Option, None, Some, refl, sym, ap, ◌∙◌, subst}
-use Rattle.mcy_base.specs.declared.span.Span.{Span}
-use Rattle.vlog_syntax.specs.declared.expr.Expr.{Expr, out-Expr, out-roll-Expr}
+use Rattle.elab_proc.proofs.Common.{◌≡◌, List, [], ◌∷◌, map, refl, sym, ap, ◌∙◌, subst, Span, Expr, out-Expr, out-roll-Expr, Identifier, LeftSide, roll-LeftSide, out-LeftSide, roll-out-LeftSide}
+use Rattle.elab_proc.proofs.Common.{LeftSideIsOne, form_step, same_form}
+use Rattle.std.proofs.Common.{Option, None, Some}
 use Rattle.vlog_syntax.specs.declared.expr.Expr.TheVariants as v
 use Rattle.vlog_syntax.specs.declared.expr.Expr.TheOpen as o
 use Rattle.vlog_syntax.specs.declared.expr.Expr.TheOpen.{Expr-F}
-use Rattle.vlog_syntax.specs.declared.identifier.Identifier.{Identifier}
-use Rattle.vlog_syntax.specs.declared.left_side.LeftSide.{LeftSide, roll-LeftSide, out-LeftSide, roll-out-LeftSide}
 use Rattle.vlog_syntax.specs.declared.left_side.LeftSide.TheOpen as l
 use Rattle.vlog_syntax.specs.declared.left_side.LeftSide.TheOpen.{LeftSide-F}
 use Rattle.vlog_syntax.specs.declared.left_side.LeftSide.TheFolds.{fold-roll-LeftSide, ind-LeftSide, map-LeftSide}
-use Rattle.elab_proc.specs.Laws.{LeftSideIsOne}
-use Rattle.elab_proc.specs.Refusals.{form_step, same_form}
+use Rattle.std.proofs.lemmas.Option.{same_Some}
 
 -- the form that an expression of a left side has
 abbrev form : LeftSide-F Expr → Expr-F Expr
@@ -59,12 +56,9 @@ back-form (l.PartSelect n at msb lsb) = refl
 back-form (l.IndexedPartSelect n at base width) = refl
 back-form (l.Concatenation at parts) = refl
 
-some_same : {A : Type 0} (a b : A) → Some a ≡ Some b → a ≡ b
-some_same a b e = cc
-
 -- layers of the same expression
 step_once : (y z : LeftSide-F Expr) → form_step y ≡ form_step z → y ≡ z
-step_once y z e = some_same y z (sym (back-form y) ∙ ap back (sym (form-of y) ∙ ap out-Expr e ∙ form-of z) ∙ back-form z)
+step_once y z e = same_Some y z (sym (back-form y) ∙ ap back (sym (form-of y) ∙ ap out-Expr e ∙ form-of z) ∙ back-form z)
 
 -- no other left side has this one's form
 abbrev IsAlone : LeftSide → Type 0

@@ -1,19 +1,6 @@
 -- Lists of what the items of a list give, one item more at a time.
-use Rattle.std.proofs.Common.{◌≡◌, zero, suc, ℕ, ◌<◌, List, [], ◌∷◌, ◌++◌, map, sym, ap, ◌∙◌, arith, length, get_or, take, append_assoc}
-use Rattle.std.specs.List.{flat_map}
-use Rattle.std.proofs.lemmas.List.{append-nil}
-use Rattle.vlog_syntax.specs.declared.left_side.LeftSide.{LeftSide}
-use Rattle.vlog_effects.specs.LeftSides.{Part, concatenated, parts_of}
-
-pub flat_take : {A B : Type 0} (g : A → List B) (xs : List A) (k : ℕ) (x : A) → x ≡ get_or xs k x → k < length xs → flat_map g (take (suc k) xs) ≡ flat_map g (take k xs) ++ g x
-flat_take g [] k x is h = absurd (omega arith)
-flat_take g (y ∷ ys) zero x is h = append-nil (g y) ∙ ap g (sym is)
-flat_take {A} {B} g (y ∷ ys) (suc k) x is h = ap (λ (l : List B). g y ++ l) (flat_take g ys k x is (omega arith)) ∙ sym (append_assoc (g y) (flat_map g (take k ys)) (g x))
-
-pub map_take : {A B : Type 0} (g : A → B) (xs : List A) (k : ℕ) (x : A) → x ≡ get_or xs k x → k < length xs → map g (take (suc k) xs) ≡ map g (take k xs) ++ g x ∷ []
-map_take g [] k x is h = absurd (omega arith)
-map_take {A} {B} g (y ∷ ys) zero x is h = ap (λ (z : A). g z ∷ []) (sym is)
-map_take {A} {B} g (y ∷ ys) (suc k) x is h = ap (λ (l : List B). g y ∷ l) (map_take g ys k x is (omega arith))
+use Rattle.elab_proc.proofs.Common.{◌≡◌, zero, suc, ℕ, ◌<◌, List, [], ◌∷◌, ◌++◌, map, sym, ap, ◌∙◌, arith, length, get_or, take, append_assoc, append-nil, LeftSide, Part, concatenated, parts_of}
+pub use Rattle.vlog_refusals.proofs.Lists.{flat_take, map_take}
 
 pub parts_take : (xs : List LeftSide) (k : ℕ) (x : LeftSide) → x ≡ get_or xs k x → k < length xs → concatenated (map parts_of (take (suc k) xs)) ≡ concatenated (map parts_of (take k xs)) ++ parts_of x
 parts_take [] k x is h = absurd (omega arith)

@@ -1,29 +1,13 @@
 -- What is refused in steps that follow others, in blocks and in the items of a case.
-use Rattle.std.proofs.Common.{◌≡◌, zero, suc, ℕ, ◌<◌, ◌≤◌, Bool, true, false, List, [], ◌∷◌, ◌++◌, map, refl, sym, ap, ◌∙◌, subst, arith, length, get_or, drop, take, append_assoc}
-use Rattle.std.specs.Prelude.{Option, None, Some, if◌then◌else◌}
-use Rattle.std.specs.List.{flat_map}
-use Rattle.std.specs.Option.{option_map}
-use Rattle.std.proofs.lemmas.List.{append-nil}
-use Rattle.vlog_syntax.specs.declared.expr.Expr.{Expr}
-use Rattle.vlog_syntax.specs.declared.stmt.CaseItem.{CaseItem, out-CaseItem}
-use Rattle.vlog_syntax.specs.declared.stmt.CaseKind.{CaseKind}
-use Rattle.vlog_syntax.specs.declared.stmt.Stmt.{Stmt}
+use Rattle.elab_proc.proofs.Common.{◌≡◌, zero, suc, ℕ, ◌<◌, ◌≤◌, Bool, true, false, List, [], ◌∷◌, ◌++◌, map, refl, sym, ap, ◌∙◌, subst, arith, length, get_or, drop, take, append_assoc, Option, None}
+use Rattle.elab_proc.proofs.Common.{Some, if◌then◌else◌, flat_map, option_map, append-nil, Expr, CaseItem, out-CaseItem, CaseKind, Stmt, Fault, least, Names, is_empty, item_steps, Steps, Done, Assign}
+use Rattle.elab_proc.proofs.Common.{Choose, Case, Refuse, Otherwise, Arm, InNames, Item, Selection, followed, in_turn, always, default_of, labelled, labels_of, greatest, front, last_body, names_all}
+use Rattle.elab_proc.proofs.Common.{arms_of, chosen_arms, bodies_of, selection_of, case_steps, step_of, item_of, steps_of, Refusal, Wrong, IsFirst, assign_refusals, own_faults, case_faults}
+use Rattle.elab_proc.proofs.Common.{common_size, flaw_refusal, labels_in, body_in, step_refusals, arm_refusals, case_refusals, Splits, least_none}
 use Rattle.vlog_syntax.specs.declared.stmt.Stmt.TheFolds.{fold_out-CaseItem}
-use Rattle.vlog_meaning.specs.declared.fault.Fault.{Fault}
-use Rattle.vlog_meaning.specs.Answers.{least}
 use Rattle.vlog_meaning.specs.declared.shapes.Shape.{Shape}
-use Rattle.vlog_meaning.specs.Scopes.{Names}
-use Rattle.vlog_meaning.specs.Senses.{is_empty}
-use Rattle.vlog_effects.specs.Laws.{item_steps}
-use Rattle.vlog_effects.specs.Steps.{Steps, Done, Assign, Choose, Case, Refuse, Otherwise, Arm, InNames, Item, Selection, followed, in_turn, always, default_of, labelled, labels_of, greatest, front, last_body, names_all, arms_of, chosen_arms, bodies_of, selection_of, case_steps, step_of, item_of, steps_of}
-use Rattle.elab_proc.specs.declared.refusal.Refusal.{Refusal}
-use Rattle.elab_proc.specs.declared.refusal.Refusal.TheVariants.{Wrong}
-use Rattle.elab_proc.specs.Order.{IsFirst}
-use Rattle.elab_proc.specs.Refusals.{assign_refusals, own_faults, case_faults, common_size, flaw_refusal, labels_in, body_in, step_refusals, arm_refusals, case_refusals}
-use Rattle.elab_proc.specs.Turns.{Splits}
-use Rattle.elab_proc.proofs.Firsts.{wrong_first}
+use Rattle.elab_proc.proofs.Firsts.{first_wrong}
 use Rattle.elab_proc.proofs.Lists.{flat_take}
-use Rattle.vlog_meaning.proofs.Firsts.{least_none}
 
 -- What is left of a list.
 
@@ -166,7 +150,7 @@ module _ (comb : Bool) (w : List Bool) where
   refused_first : (fs : List Fault) (arms bodies : List Refusal) (f : Fault) (o r : Option Refusal) → Some f ≡ least fs → IsFirst bodies o → ((xs ys : List Refusal) → IsFirst xs (Some (Wrong f)) → IsFirst ys o → IsFirst (xs ++ ys) r) → IsFirst (case_refusals fs arms bodies) r
   unfolding least
   refused_first [] arms bodies f o r is i joined = cc
-  refused_first (g ∷ more) arms bodies f o r is i joined = joined (map Wrong (g ∷ more)) bodies (go (least (g ∷ more)) is (wrong_first (g ∷ more))) i where
+  refused_first (g ∷ more) arms bodies f o r is i joined = joined (map Wrong (g ∷ more)) bodies (go (least (g ∷ more)) is (first_wrong (g ∷ more) (least (g ∷ more)) refl)) i where
     go : (found : Option Fault) → Some f ≡ found → IsFirst (map Wrong (g ∷ more)) (option_map Wrong found) → IsFirst (map Wrong (g ∷ more)) (Some (Wrong f))
     go None e first = cc
     go (Some h) e first = let same : f ≡ h = cc in subst (λ (x : Fault). IsFirst (map Wrong (g ∷ more)) (Some (Wrong x))) (sym same) first

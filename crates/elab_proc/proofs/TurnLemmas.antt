@@ -1,37 +1,19 @@
 -- The turns of a loop, one at a time.
-use Rattle.std.proofs.Common.{◌≡◌, zero, suc, ℕ, ◌<◌, ◌≤◌, ◌+◌, ◌-◌, ◌%◌, ◌^◌, Bool, true, false, nat_eq, nat_le, nat_lt, List, [], ◌∷◌, ◌++◌, refl, sym, ap, ◌∙◌, subst, arith}
-use Rattle.std.specs.Prelude.{Option, None, Some, IsSome, not, if◌then◌else◌}
-use Rattle.std.specs.Option.{option_map}
+use Rattle.elab_proc.proofs.Common.{◌≡◌, zero, suc, ℕ, ◌<◌, ◌≤◌, ◌+◌, ◌-◌, ◌%◌, ◌^◌, Bool, true, false, nat_eq, nat_le, nat_lt, List, [], ◌∷◌, ◌++◌, refl, sym, ap, ◌∙◌, subst, arith, Option, None}
+use Rattle.elab_proc.proofs.Common.{Some, IsSome, not, if◌then◌else◌, option_map, Span, Word, Identifier, Expr, LeftSide, out-LeftSide, Assignment, ConstError, Fault, Decl, Constant, least}
+use Rattle.elab_proc.proofs.Common.{const_error, Names, nothing, with_name, decl_shape, sense, assigned, constant_faults_at, told, where_faultless, constant_of, constant_faults, Steps, Done, Refuse}
+use Rattle.elab_proc.proofs.Common.{Turns, Const, Flaw, InNames, Loop, followed, refused, tested_word, word_of, with_word, turn_names, flaws_of, tested, stepped, turns, max_turns, looped, loop_steps}
+use Rattle.elab_proc.proofs.Common.{name_alone, step_flaws, Refusal, LoopTurns, IsFirst, const_refusal, step_refusals, AreSized, next_steps, turn_steps, next_value, Stops, AlikeBut, flaw_among}
 use Rattle.std.specs.Str.{bytes_eq}
 use Rattle.std.specs.Cmp.Lexicographic.{bytes_decides}
 use Rattle.std.proofs.Math.Nat.{mod-mod, mod-eq_of_lt}
 use Rattle.std.specs.Coded.{le_prop}
 use Rattle.std.proofs.lemmas.Bool.{lt-ltb, le-leb}
 use Rattle.std.proofs.lemmas.Bool.Decides.{nat_tests}
-use Rattle.mcy_base.specs.declared.span.Span.{Span}
-use Rattle.mcy_base.specs.declared.word.Word.{Word}
-use Rattle.vlog_syntax.specs.declared.identifier.Identifier.{Identifier}
-use Rattle.vlog_syntax.specs.declared.expr.Expr.{Expr}
-use Rattle.vlog_syntax.specs.declared.left_side.LeftSide.{LeftSide, out-LeftSide}
 use Rattle.vlog_syntax.specs.declared.left_side.LeftSide.TheVariants as lv
-use Rattle.vlog_syntax.specs.declared.stmt.Assignment.{Assignment}
-use Rattle.vlog_meaning.specs.declared.fault.ConstError.{ConstError}
-use Rattle.vlog_meaning.specs.declared.fault.Fault.{Fault}
-use Rattle.vlog_meaning.specs.declared.scope.Decl.{Decl}
-use Rattle.vlog_meaning.specs.declared.scope.Decl.TheVariants.{Constant}
-use Rattle.vlog_meaning.specs.Answers.{least, const_error}
 use Rattle.vlog_meaning.specs.Operators.{IsSized}
-use Rattle.vlog_meaning.specs.Scopes.{Names, nothing, with_name, decl_shape}
-use Rattle.vlog_meaning.specs.Senses.{sense, assigned, constant_faults_at}
 use Rattle.vlog_meaning.proofs.Redeclared.{last_counts, restores}
-use Rattle.vlog_effects.specs.Expressions.{told, where_faultless, constant_of, constant_faults}
-use Rattle.vlog_effects.specs.Steps.{Steps, Done, Refuse, Turns, Const, Flaw, InNames, Loop, followed, refused, tested_word, word_of, with_word, turn_names, flaws_of, tested, stepped, turns, max_turns, looped, loop_steps, name_alone, step_flaws}
 use Rattle.vlog_effects.proofs.Folds.{out-name}
-use Rattle.elab_proc.specs.declared.refusal.Refusal.{Refusal}
-use Rattle.elab_proc.specs.declared.refusal.Refusal.TheVariants.{LoopTurns}
-use Rattle.elab_proc.specs.Order.{IsFirst}
-use Rattle.elab_proc.specs.Refusals.{const_refusal, step_refusals, AreSized}
-use Rattle.elab_proc.specs.Turns.{next_steps, turn_steps, next_value, Stops, AlikeBut, flaw_among}
 use Rattle.elab_proc.proofs.Firsts.{first_alone}
 use Rattle.elab_proc.proofs.StepLemmas.{followed_refusals}
 

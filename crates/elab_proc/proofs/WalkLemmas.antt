@@ -1,41 +1,14 @@
 -- Statements of each kind, and the items of a case one at a time.
-use Rattle.std.proofs.Common.{◌≡◌, suc, ℕ, ◌<◌, ◌≤◌, Bool, true, false, List, [], ◌++◌, map, refl, sym, ap, ◌∙◌, subst, length, get_or, drop, append_assoc, ◌%◌, ◌^◌}
-use Rattle.std.specs.Prelude.{Option, None, Some}
-use Rattle.std.specs.List.{flat_map}
-use Rattle.std.specs.Option.{option_map}
-use Rattle.std.proofs.lemmas.List.{append-nil}
-use Rattle.mcy_base.specs.declared.span.Span.{Span}
-use Rattle.vlog_syntax.specs.declared.identifier.Identifier.{Identifier}
-use Rattle.vlog_syntax.specs.declared.expr.Expr.{Expr}
-use Rattle.vlog_syntax.specs.declared.left_side.LeftSide.{out-LeftSide}
+use Rattle.elab_proc.proofs.Common.{◌≡◌, suc, ℕ, ◌<◌, ◌≤◌, Bool, true, false, List, [], ◌++◌, map, refl, sym, ap, ◌∙◌, subst, length, get_or, drop, append_assoc, ◌%◌, ◌^◌, Option, None, Some}
+use Rattle.elab_proc.proofs.Common.{flat_map, option_map, append-nil, Span, Identifier, Expr, out-LeftSide, Word, ConstError, Signal, least, const_error, constant_of, constant_faults, Assignment}
+use Rattle.elab_proc.proofs.Common.{CaseItem, out-CaseItem, CaseKind, Stmt, Decl, Names, nothing, is_empty, sense, assigned, item_steps, Steps, InNames, Loop, Selection, looped, all_turns, flaws_of}
+use Rattle.elab_proc.proofs.Common.{turns, max_turns, always, done_by, default_of, case_steps, loop_steps, name_alone, steps_of, else_steps, Refusal, Wrong, IsFirst, const_refusal, own_faults}
+use Rattle.elab_proc.proofs.Common.{labels_in, step_refusals, Splits}
 use Rattle.vlog_syntax.specs.declared.left_side.LeftSide.TheVariants as lv
-use Rattle.mcy_base.specs.declared.word.Word.{Word}
-use Rattle.vlog_meaning.specs.declared.fault.ConstError.{ConstError}
-use Rattle.vlog_meaning.specs.declared.scope.Decl.TheVariants.{Signal}
-use Rattle.vlog_meaning.specs.Answers.{least, const_error}
-use Rattle.vlog_effects.specs.Expressions.{constant_of, constant_faults}
-use Rattle.vlog_syntax.specs.declared.stmt.Assignment.{Assignment}
-use Rattle.vlog_syntax.specs.declared.stmt.CaseItem.{CaseItem, out-CaseItem}
-use Rattle.vlog_syntax.specs.declared.stmt.CaseKind.{CaseKind}
-use Rattle.vlog_syntax.specs.declared.stmt.Stmt.{Stmt}
 use Rattle.vlog_syntax.specs.declared.stmt.Stmt.TheVariants as s
-use Rattle.vlog_meaning.specs.Operators.{IsSized}
-use Rattle.vlog_meaning.specs.declared.scope.Decl.{Decl}
-use Rattle.vlog_meaning.specs.Scopes.{Names, nothing, decl_shape}
-use Rattle.vlog_meaning.specs.Senses.{is_empty, sense, assigned}
-use Rattle.vlog_effects.specs.Laws.{item_steps}
-use Rattle.vlog_effects.specs.Steps.{Steps, InNames, Loop, Selection, looped, all_turns, flaws_of, turns, max_turns, always, done_by, default_of, case_steps, loop_steps, name_alone, steps_of, else_steps}
 use Rattle.vlog_effects.proofs.Variants.{steps-block, steps-conditional, steps-case, steps-loop}
-use Rattle.elab_proc.specs.declared.refusal.Refusal.{Refusal}
-use Rattle.elab_proc.specs.declared.refusal.Refusal.TheVariants.{Wrong}
-use Rattle.elab_proc.specs.Order.{IsFirst}
-use Rattle.elab_proc.specs.Refusals.{const_refusal, own_faults, labels_in, step_refusals, AreSized}
-use Rattle.elab_proc.specs.Turns.{Splits}
 use Rattle.elab_proc.proofs.TurnLemmas.{faults_at, failing, constant_stands, turns_next, loop_by_name}
 use Rattle.elab_proc.proofs.StepLemmas.{splits_on, splits_end, block_refusals, left_refusals, left_labelled, left_default, default_here, drop_all}
-
-pub sized_at : (names : Names) (name : List ℕ) (o d : Option Decl) → o ≡ names name → o ≡ d → AreSized names → IsSized (decl_shape d)
-sized_at names name o d is e sized = subst (λ (x : Option Decl). IsSized (decl_shape x)) (sym is ∙ e) (sized name)
 
 module _ (comb : Bool) (w : List Bool) (names : Names) where
   refs : Stmt → List Refusal

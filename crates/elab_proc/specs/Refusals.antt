@@ -17,49 +17,39 @@ use Rattle.vlog_meaning.specs.declared.fault.ConstError.TheVariants as k
 use Rattle.vlog_meaning.specs.declared.fault.Fault.{Fault}
 use Rattle.vlog_meaning.specs.declared.scope.Decl.{Decl}
 use Rattle.vlog_meaning.specs.declared.scope.Decl.TheVariants.{Signal, Constant}
-use Rattle.vlog_meaning.specs.declared.shapes.Shape.{Shape}
 use Rattle.vlog_meaning.specs.Operators.{IsSized}
 use Rattle.vlog_meaning.specs.Scopes.{Names, decl_shape}
-use Rattle.vlog_meaning.specs.Senses.{sense, assigned, fault, or_else, own_zeros}
+use Rattle.vlog_meaning.specs.Senses.{fault}
 use Rattle.expr_plans.specs.Made.{plan}
-use Rattle.vlog_effects.specs.Expressions.{width_of}
 use Rattle.vlog_effects.specs.LeftSides.{Part, parts_of}
-use Rattle.vlog_effects.specs.Steps.{Assigning, greatest, all_signed, Flaw, Const, Lacks, Turns, Steps, Done, Assign, Choose, Case, Refuse, Arms, Otherwise, Arm}
+use Rattle.vlog_effects.specs.Steps.{Assigning, Flaw, Const, Lacks, Turns, Steps, Done, Assign, Choose, Case, Refuse, Arms, Otherwise, Arm}
+use Rattle.vlog_refusals.specs.Cases.{case_faults as case_faults_by}
+use Rattle.vlog_refusals.specs.Expressions.{wrong as wrong_by, own_faults as own_faults_by, sides_faults as sides_faults_by}
+pub use Rattle.vlog_refusals.specs.Cases.{AllWithin, LabelsWithin, common_size, labels_in, widened, zeros_at}
+pub use Rattle.vlog_refusals.specs.Expressions.{divisions, index_faults}
 use Rattle.elab_proc.specs.declared.refusal.Refusal.{Refusal}
 use Rattle.elab_proc.specs.declared.refusal.Refusal.TheVariants.{Wrong, Unsupported, TwoWriters, LoopTurns}
 
--- Expressions.
+-- Expressions, which become cells.
+
+abbrev pub not_supported : Names → Expr → List Fault
+not_supported names x = (plan names x).unsupported
 
 -- what is wrong in an expression, or not supported in it
 abbrev pub wrong : Names → Expr → List Fault
-wrong names x = (sense names x).faults ++ (plan names x).unsupported
+wrong = wrong_by not_supported
 
--- divisions of constants by 0
-abbrev pub divisions : List Span → List Fault
-divisions spans = map (fault cause.DivideByZero) spans
-
--- an expression that stands for itself, as a condition does
+-- in one that stands for itself, as a condition does
 abbrev pub own_faults : Names → Expr → List Fault
-own_faults names x = or_else (wrong names x) (divisions (own_zeros (sense names x)))
+own_faults = own_faults_by not_supported
 
--- the size to which expressions are brought together (IEEE 1364-2005, 9.5)
-abbrev pub common_size : Names → List Expr → Shape
-common_size names xs = record { width = greatest names xs; is_signed = all_signed names xs }
+-- in the sides of an assignment
+abbrev pub sides_faults : Names → Expr → Expr → List Fault
+sides_faults = sides_faults_by not_supported
 
--- divisions of constants by 0 in expressions that are evaluated at one size
-abbrev pub zeros_at : Names → Shape → Expr → List Span
-zeros_at names size x = (sense names x).zeros size
-
--- The selector and labels of a case: a division by 0 is looked for where all of them have their sizes.
+-- in the selector and labels of a case
 abbrev pub case_faults : Names → List Expr → List Fault
-case_faults names xs = or_else (flat_map (wrong names) xs) (divisions (flat_map (zeros_at names (common_size names xs)) xs))
-
--- the labels and the body of an item
-abbrev pub labels_in : CaseItem → List Expr
-labels_in i = (out-CaseItem i).labels
-
-abbrev pub body_in : CaseItem → Stmt
-body_in i = (out-CaseItem i).body
+case_faults = case_faults_by not_supported
 
 -- Left sides (IEEE 1364-2005, A.8.5).
 
@@ -73,10 +63,6 @@ form_step (l.Concatenation s parts) = v.Concatenation s parts
 -- the expression of the same form, with which a left side shares what is wrong in it
 abbrev pub same_form : LeftSide → Expr
 same_form = fold-LeftSide Expr form_step
-
--- The sides of an assignment: the right one is evaluated at the greater width of both.
-abbrev pub sides_faults : Names → Expr → Expr → List Fault
-sides_faults names left right = or_else (wrong names left ++ wrong names right) (divisions (own_zeros (sense names left) ++ (sense names right).zeros (assigned (sense names right) (width_of names left))))
 
 -- the signal of this number has a writer outside the process
 abbrev pub is_written : List Bool → ℕ → Bool
@@ -135,3 +121,9 @@ abbrev mutual
 -- each declared signal has from 1 to 128 bits
 abbrev pub AreSized : Names → Type 0
 AreSized names = (name : List ℕ) → IsSized (decl_shape (names name))
+
+-- For proofs alone.
+
+-- the body of an item
+abbrev pub body_in : CaseItem → Stmt
+body_in i = (out-CaseItem i).body

@@ -21,18 +21,9 @@ use Rattle.elab_proc.specs.Refusals.{flaw_refusal, own_faults, step_refusals}
 abbrev pub loop_of : Header → Loop
 loop_of h = record { place = h.place; name = h.name.now; width = h.width; is_signed = h.is_signed; condition = h.condition.now; step = h.step.now }
 
--- the refusal of the first flaw
-abbrev pub flaw_among : List Flaw → Option Refusal
-flaw_among [] = None
-flaw_among (x ∷ more) = Some (flaw_refusal x)
-
 -- what comes after the body of a turn that sees these names
 abbrev pub next_steps : Loop → Names → (ℕ → Steps) → Steps
 next_steps loop here later = stepped (step_flaws loop here (name_alone (out-LeftSide loop.step.left))) (constant_of here loop.width loop.step.value) (flaws_of (constant_faults here loop.width loop.step.value)) later
-
--- a turn that sees these names, and what comes after it
-abbrev pub turn_steps : Loop → InNames → Names → (ℕ → Steps) → Steps
-turn_steps loop body here later = tested (constant_of here 1 loop.condition) (flaws_of (constant_faults here 1 loop.condition)) (followed (body here) (next_steps loop here later))
 
 -- the step's value
 abbrev pub next_value : Loop → Names → ℕ
@@ -45,6 +36,17 @@ GoesOn loop here word = (word.width ≡ loop.width) × (word.bits ≡ next_value
 -- after the body comes this refusal
 abbrev pub Stops : Loop → Names → Refusal → Type 0
 Stops loop here refusal = (comb : Bool) (written : List Bool) (later : ℕ → Steps) → IsFirst (step_refusals comb written (next_steps loop here later)) (Some refusal)
+
+-- For proofs alone.
+
+-- the refusal of the first flaw
+abbrev pub flaw_among : List Flaw → Option Refusal
+flaw_among [] = None
+flaw_among (x ∷ more) = Some (flaw_refusal x)
+
+-- a turn that sees these names, and what comes after it
+abbrev pub turn_steps : Loop → InNames → Names → (ℕ → Steps) → Steps
+turn_steps loop body here later = tested (constant_of here 1 loop.condition) (flaws_of (constant_faults here 1 loop.condition)) (followed (body here) (next_steps loop here later))
 
 -- The answer for a turn: it was the last one, or another comes.
 abbrev pub IsTurn : Bool → List Bool → Loop → InNames → Names → Turn → Type 0

@@ -2,30 +2,28 @@
 //!
 //! A scope is lent to a statement, and given back as it was: in the turns of a loop its variable is a constant, and after
 //! the loop it is declared as before.
-ghost use Rattle.std.specs.Prelude.{◌≡◌, ◌≤◌, map, List, Some, IfOk, OnOk, IsSome};
+ghost use Rattle.std.specs.Prelude.{◌≡◌, ◌≤◌, map, Some, IfOk, OnOk, IsSome};
 ghost use Rattle.std.specs.List.{flat_map};
 ghost use Rattle.vlog_syntax.specs.declared.stmt.Stmt.{Stmt as Statement};
 ghost use Rattle.vlog_syntax.specs.declared.stmt.CaseItem.{CaseItem as Item};
 ghost use Rattle.vlog_syntax.specs.declared.left_side.LeftSide.{out-LeftSide};
-ghost use Rattle.vlog_meaning.specs.declared.fault.Fault.{Fault as Wrong};
 ghost use Rattle.vlog_meaning.specs.declared.scope.Decl.TheVariants.{Constant};
-ghost use Rattle.vlog_meaning.specs.Answers.{least};
 ghost use Rattle.vlog_meaning.specs.Scopes.{Names, names_of, with_name};
 ghost use Rattle.vlog_effects.specs.Laws.{item_steps};
 ghost use Rattle.vlog_effects.specs.Steps.{Selection, assigning, steps_of, done_by, default_of, labelled, arms_of, case_steps, loop_steps, name_alone, turns, max_turns};
-ghost use Rattle.elab_proc.specs.declared.refusal.Refusal.TheVariants as r;
 ghost use Rattle.elab_proc.specs.Order.{IsFirst};
 ghost use Rattle.elab_proc.specs.Refusals.{step_refusals, arm_refusals, assign_refusals, kind_refusals, body_in, AreSized};
 ghost use Rattle.elab_proc.specs.Turns.{loop_of, IsTurn, AlikeBut};
 
 use crate::cases::{always, case_fault, case_size, is_default};
 use crate::left_side::{names_refusal, same_form};
-use crate::refusal::{Refusal, earlier};
-use crate::sides::{own_fault, sides_fault};
+use crate::refusal::{Refusal, earlier, wrong};
+use crate::sides::{Cells, own_fault};
 use crate::turns::{Header, Turn, holds, last_test, next_word, of_const};
 use mcy_base::{Span, Word};
 use std::alloc::{AllocError, Global};
 use vlog_meaning::{Cause, Decl, Fault, Scope, constant_at};
+use vlog_refusals::sides_fault;
 use vlog_syntax::{Assignment, Boxed, CaseItem, CaseKind, Expr, Feature, LeftSide, Stmt};
 
 /// On what the refusals of statements rest besides their scope: the kind of the process, and which signals have a writer
@@ -39,16 +37,6 @@ pub struct ProcessRules<'a> {
 
 /// The most turns of one loop.
 pub const MAX_TURNS: u32 = 4096;
-
-/// A fault as a refusal.
-fn wrong(fault: Option<Fault>) -> Option<Refusal>
-    ensures { (fs : List Wrong) → fault ≡ least fs → IsFirst (map r.Wrong fs) result }
-{
-    match fault {
-        Some(fault) => Some(Refusal::Wrong(fault)),
-        None => None,
-    }
-}
 
 /// A nonblocking assignment in a combinational process.
 fn kind_refusal(is_combinational: bool, is_blocking: bool, span: Span) -> Option<Refusal>
@@ -71,7 +59,7 @@ fn assignment_refusal(
     ensures { IfOk result (λ o. IsFirst (assign_refusals walk.now.is_combinational walk.now.written.now (assigning is_blocking assignment.now (names_of scope.now))) o) }
 {
     let left = same_form(walk.alloc, &assignment.left)?;
-    let sides = wrong(sides_fault(&left, assignment.value.get(), scope));
+    let sides = wrong(sides_fault(Cells, &left, assignment.value.get(), scope));
     let names = names_refusal(&assignment.left, scope, walk.written);
     let kind = kind_refusal(walk.is_combinational, is_blocking, assignment.span);
     Ok(earlier(sides, earlier(names, kind)))

@@ -1,44 +1,32 @@
 -- The numbers that the items of a sound design declare: each signal's, once. Those of ports are signals' too.
-use Rattle.std.proofs.Common.{◌≡◌, inl, inr, ℕ, ◌+◌, ◌<◌, ◌≤◌, Bool, true, false, List, [], ◌∷◌, ◌++◌, length, Option, None, Some, refl, sym, ap, ◌∙◌, subst, arith}
-use Rattle.std.specs.Prelude.{nat_eq, nat_lt, slice_get, if◌then◌else◌}
-use Rattle.std.specs.List.{Contains}
+use Rattle.elab_writers.proofs.Common.{◌≡◌, inl, inr, ℕ, ◌+◌, ◌<◌, ◌≤◌, Bool, true, false, List, [], ◌∷◌, ◌++◌, length, Option, None, Some, refl, sym, ap, ◌∙◌, subst, arith, nat_eq, nat_lt, slice_get}
+use Rattle.elab_writers.proofs.Common.{if◌then◌else◌, Contains, Identifier, Building, NoneTwice, FlatItem, AllStand, declares, times_declared, direction_in, has_direction, is_clock, port_number}
+use Rattle.elab_writers.proofs.Common.{port_numbers, without, AreKnown, declared_numbers, nat_eq_same, has_cases, has_first, has_more, has_none}
 use Rattle.std.proofs.lemmas.Bool.Decides.{eqb_tells, nat_tests}
 use Rattle.std.proofs.lemmas.Option.{slice_get_within}
-use Rattle.vlog_syntax.specs.declared.identifier.Identifier.{Identifier}
 use Rattle.vlog_syntax.specs.declared.item.Direction.{Direction}
 use Rattle.vlog_syntax.specs.declared.item.Direction.TheVariants.{Input, Output}
 use Rattle.flat_scopes.specs.declared.signal.Signal.{Signal}
 use Rattle.flat_scopes.specs.declared.signal.What.{What}
 use Rattle.flat_scopes.specs.declared.signal.What.TheVariants as w
 use Rattle.flat_scopes.specs.Owns.{Own}
-use Rattle.net_builder.specs.Building.{Building}
-use Rattle.flat_runs.specs.Meanings.{NoneTwice}
-use Rattle.flat_runs.proofs.Lists.{contains_cases, contains_first, contains_more, contains_none}
-use Rattle.flat_instances.specs.declared.item.FlatItem.{FlatItem}
 use Rattle.flat_instances.specs.declared.item.FlatItem.TheVariants as f
-use Rattle.flat_laws.specs.Sound.{AllStand, declares, times_declared}
-use Rattle.elab_items.specs.Designs.{direction_in, has_direction, is_clock, port_number, port_numbers, without}
-use Rattle.elab_finish.specs.Endings.{AreKnown}
-use Rattle.elab_writers.specs.Numbers.{declared_numbers}
 
 -- How often a number is declared.
-
-same_number : (k : ℕ) → nat_eq k k ≡ true
-same_number k = grind (arith, nat_tests)
 
 -- how often a test counts
 abbrev one_if : Bool → ℕ
 one_if b = if b then 1 else 0
 
 counts_one : (n k : ℕ) → n ≡ k → one_if (nat_eq n k) ≡ 1
-counts_one n k e = subst (λ (j : ℕ). one_if (nat_eq n j) ≡ 1) e (ap one_if (same_number n))
+counts_one n k e = subst (λ (j : ℕ). one_if (nat_eq n j) ≡ 1) e (ap one_if (nat_eq_same n))
 
 counts_none : (n k : ℕ) → nat_eq n k ≡ false → one_if (nat_eq n k) ≡ 0
 counts_none n k e = ap one_if e
 
 times_more : (items : List FlatItem) (k : ℕ) → Contains (declared_numbers items) k → 1 ≤ times_declared k items
-times_more [] k c = absurd (contains_none k c)
-times_more (f.Declares n ∷ more) k c = elim (contains_cases (declared_numbers more) n k c) [
+times_more [] k c = absurd (has_none k c)
+times_more (f.Declares n ∷ more) k c = elim (has_cases (declared_numbers more) n k c) [
   | inl e ↦ (let one = counts_one n k e in let sum : times_declared k (f.Declares n ∷ more) ≡ one_if (nat_eq n k) + times_declared k more = refl in omega (arith, one, sum))
   | inr m ↦ (let t = times_more more k m in let sum : times_declared k (f.Declares n ∷ more) ≡ one_if (nat_eq n k) + times_declared k more = refl in omega (arith, t, sum))
 ]
@@ -47,8 +35,8 @@ times_more (other ∷ more) k c = let t = times_more more k c in let sum : times
 pub declared_has : (items : List FlatItem) (k : ℕ) → 1 ≤ times_declared k items → Contains (declared_numbers items) k
 declared_has [] k some = absurd (omega (arith, some))
 declared_has (f.Declares n ∷ more) k some = elim (eqb_tells n k) [
-  | inl t ↦ subst (Contains (n ∷ declared_numbers more)) t.1 (contains_first (declared_numbers more) n)
-  | inr t ↦ contains_more (declared_numbers more) n k (declared_has more k (later (counts_none n k t.0)))
+  | inl t ↦ subst (Contains (n ∷ declared_numbers more)) t.1 (has_first (declared_numbers more) n)
+  | inr t ↦ has_more (declared_numbers more) n k (declared_has more k (later (counts_none n k t.0)))
 ] where
   later : one_if (nat_eq n k) ≡ 0 → 1 ≤ times_declared k more
   later none = let sum : times_declared k (f.Declares n ∷ more) ≡ one_if (nat_eq n k) + times_declared k more = refl in omega (arith, none, some, sum)

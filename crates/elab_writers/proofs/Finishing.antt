@@ -1,49 +1,21 @@
 -- What is asked of a builder where its netlist is made, where all items of a sound design are built.
-use Rattle.std.proofs.Common.{◌≡◌, inl, inr, ℕ, ◌<◌, Bool, List, [], ◌∷◌, map, length, Option, None, Some, refl, sym, ap, ◌∙◌, subst}
-use Rattle.std.specs.Prelude.{slice_get, slice_index_or}
-use Rattle.std.specs.List.{Contains}
-use Rattle.std.proofs.lemmas.List.{length-map}
-use Rattle.std.proofs.lemmas.List.Elements.{Contains-append_cases}
-use Rattle.netlist_core.specs.declared.bit.Bit.{Bit}
-use Rattle.netlist_core.specs.declared.port.Register.{Register}
+use Rattle.elab_writers.proofs.Common.{◌≡◌, inl, inr, ℕ, ◌<◌, Bool, List, [], ◌∷◌, map, length, Option, None, Some, refl, sym, ap, ◌∙◌, subst, slice_get, slice_index_or, Contains}
+use Rattle.elab_writers.proofs.Common.{Contains-append_cases, Bit, Register, Target, targets, Steps, Building, empty, signal, Meaning, stored_by, AddsItem, nothing_written, distinct, Known, Widths}
+use Rattle.elab_writers.proofs.Common.{AddsMeaning, BuildsBy, meaning_of, process_steps, widths_in, variables, Flat, Place, FlatItem, Uses, AllStand, IsSound, port_numbers, Builds, HasParts, Stands}
+use Rattle.elab_writers.proofs.Common.{Means, names_at, BuildsAll, builds_stand, registers_have, DesignsCanFinish, ItemsHaveOneWriter, declared_numbers, input_numbers, has_cases, has_none}
 use Rattle.vlog_syntax.specs.declared.item.Direction.TheVariants.{Input, Output}
-use Rattle.vlog_effects.specs.Latches.{Target, targets}
-use Rattle.vlog_effects.specs.Steps.{Steps}
-use Rattle.net_builder.specs.Building.{Building, empty, signal}
-use Rattle.flat_scopes.specs.declared.signal.Signal.{Signal}
-use Rattle.flat_runs.specs.Meanings.{Meaning, stored_by}
-use Rattle.flat_runs.specs.Adding.{AddsItem}
-use Rattle.flat_runs.proofs.Lists.{contains_cases, contains_none}
-use Rattle.flat_runs.proofs.Writing.{nothing_written}
 use Rattle.process_events.specs.Events as v
 use Rattle.process_events.specs.Events.{Sensitivity, sensitivity}
-use Rattle.proc_muxes.specs.Builds.{distinct}
-use Rattle.proc_muxes.specs.Shows.{Known}
 use Rattle.proc_muxes.proofs.Frames.{known-distinct}
 use Rattle.proc_muxes.proofs.Keeping.{keeps}
-use Rattle.process_cells.specs.Items.{Widths, AddsMeaning, BuildsBy, meaning_of, process_steps, widths_in}
-use Rattle.process_cells.specs.Processes.{Clocks, variables}
+use Rattle.process_cells.specs.Processes.{Clocks}
 use Rattle.process_cells.specs.Starts.{SameButStarts}
-use Rattle.flat_items.specs.Flattened.{Flat}
 use Rattle.flat_items.specs.Tops.{own_in}
-use Rattle.flat_instances.specs.Places.{Place}
-use Rattle.flat_instances.specs.declared.item.FlatItem.{FlatItem}
 use Rattle.flat_instances.specs.declared.item.FlatItem.TheVariants as f
-use Rattle.flat_clocks.specs.Clocks.{Clocks as Uses}
-use Rattle.flat_laws.specs.Sound.{AllStand, IsSound}
-use Rattle.elab_items.specs.Designs.{port_numbers}
-use Rattle.elab_items.specs.Items.{Builds, HasParts, Stands}
-use Rattle.elab_items.specs.Meanings.{Means}
 use Rattle.elab_items.specs.Signals.{declared}
-use Rattle.elab_items.specs.Starts.{names_at}
-use Rattle.elab_items.specs.Timed.{BuildsAll}
-use Rattle.elab_items.proofs.Declaring.{bits_width, lengths, no_joints, no_registers}
-use Rattle.elab_items.proofs.Sounding.{declared_stands}
-use Rattle.elab_items.proofs.Standing.{builds_stand}
+use Rattle.elab_items.proofs.Declaring.{no_joints, no_registers}
+use Rattle.elab_items.proofs.Sounding.{declared_stands, counted}
 use Rattle.elab_items.proofs.Starting.{starts_stand}
-use Rattle.elab_finish.proofs.Registering.{registers_have}
-use Rattle.elab_writers.specs.Laws.{DesignsCanFinish, ItemsHaveOneWriter}
-use Rattle.elab_writers.specs.Numbers.{declared_numbers, input_numbers}
 use Rattle.elab_writers.proofs.Declared.{declared_has, declared_known, declared_once, once_least, once_most, ports_known, without_known}
 
 -- Where items are built one after the other.
@@ -77,8 +49,8 @@ abbrev AreOfSignals : Building → Type 0
 AreOfSignals b = (r : Register) → Contains b.registers r → (k : ℕ) × (k < length b.signals) × (r.q ≡ signal b k)
 
 known_target : (count : ℕ) (ts : List Target) (k : ℕ) → Known count ts → Contains (map (λ x. x.number) ts) k → k < count
-known_target count [] k h c = absurd (contains_none k c)
-known_target count (x ∷ ts) k h c = elim (contains_cases (map (λ y. y.number) ts) x.number k c) [ inl e ↦ subst (λ (j : ℕ). j < count) e h.0 | inr m ↦ known_target count ts k h.1 m ]
+known_target count [] k h c = absurd (has_none k c)
+known_target count (x ∷ ts) k h c = elim (has_cases (map (λ y. y.number) ts) x.number k c) [ inl e ↦ subst (λ (j : ℕ). j < count) e h.0 | inr m ↦ known_target count ts k h.1 m ]
 
 clocked_known : (steps : Steps) (old new : Building) (k : ℕ) → Clocks steps old new → Contains (variables steps) k → k < length old.signals
 clocked_known steps old new k h c =
@@ -94,7 +66,7 @@ abbrev StoresKnown : Building → Meaning → Type 0
 StoresKnown b m = (k : ℕ) → Contains (stored_by m) k → k < length b.signals
 
 stores_none : (b : Building) (x y : Meaning) → Some x ≡ Some y → stored_by y ≡ [] → StoresKnown b x
-stores_none b x y e none k c = absurd (contains_none k (subst (λ (l : List ℕ). Contains l k) none (subst (λ (m : Meaning). Contains (stored_by m) k) (given x y e) c)))
+stores_none b x y e none k c = absurd (has_none k (subst (λ (l : List ℕ). Contains l k) none (subst (λ (m : Meaning). Contains (stored_by m) k) (given x y e) c)))
 
 run_stores : (width : Widths) (when : Sensitivity) (steps : Steps) (old new : Building) (x : Meaning) → Some x ≡ meaning_of width when steps → BuildsBy when steps old new → StoresKnown old x
 run_stores width v.Once steps old new x same built k c = absurd cc
@@ -131,9 +103,6 @@ all_registers flags flat clocks (item ∷ more) old last h built = all_registers
 
 -- The builder in which the signals are declared.
 
-counted : (ss : List Signal) → length (declared ss empty).signals ≡ length ss
-counted ss = sym (length-map (declared ss empty).signals length) ∙ ap (λ (ns : List ℕ). length ns) (lengths ss empty) ∙ length-map ss bits_width
-
 pub first_stands : (flat : Flat) (first : Building) → IsSound flat → SameButStarts (declared flat.signals empty) first → Stands flat.places first
 first_stands flat first sound same = starts_stand flat.places (declared flat.signals empty) first same (declared_stands flat sound).0
 
@@ -148,7 +117,7 @@ last_count flags flat clocks first last same built =
     ap (λ (s : List (List Bit)). length s) ((all_same flags flat clocks flat.items first last built).signals ∙ ap (λ (b : Building). b.signals) same) ∙ counted flat.signals
 
 no_registers_of : (b : Building) → b.registers ≡ [] → AreOfSignals b
-no_registers_of b none r c = absurd (contains_none r (subst (λ (rs : List Register). Contains rs r) none c))
+no_registers_of b none r c = absurd (has_none r (subst (λ (rs : List Register). Contains rs r) none c))
 
 registers_declared : (flat : Flat) (b : Building) → IsSound flat → length b.signals ≡ length flat.signals → AreOfSignals b → (r : Register) → Contains b.registers r → (k : ℕ) × Contains (declared_numbers flat.items) k × (r.q ≡ signal b k)
 registers_declared flat b sound count h r c =

@@ -1,21 +1,12 @@
 -- A process in which nothing is refused assigns variables that have no writer outside it.
-use Rattle.std.proofs.Common.{◌≡◌, inl, inr, ℕ, Bool, true, false, List, [], ◌∷◌, ◌++◌, map, Option, Some, None, refl, subst}
-use Rattle.std.specs.Prelude.{if◌then◌else◌}
-use Rattle.std.specs.List.{Contains, flat_map}
-use Rattle.vlog_meaning.specs.declared.fault.Fault.{Fault}
+use Rattle.elab_writers.proofs.Common.{◌≡◌, inl, inr, ℕ, Bool, true, false, List, [], ◌∷◌, ◌++◌, map, Option, Some, None, refl, subst, if◌then◌else◌, Contains, flat_map, Fault, Names, left_nil}
+use Rattle.elab_writers.proofs.Common.{right_nil, Part, parts_of, part_vector, vector_of, Assigning, Steps, Done, Choose, Case, Refuse, Arms, Otherwise, Arm, Target, targets, arms_targets}
+use Rattle.elab_writers.proofs.Common.{part_targets, parts_targets, Refusal, arm_refusals, assign_refusals, case_faults, is_written, kind_refusals, name_refusals, own_faults, part_refusals, same_form}
+use Rattle.elab_writers.proofs.Common.{sides_faults, step_refusals, case_refusals, distinct, distinct_after, stands, variables, has_cases, has_none}
 use Rattle.vlog_meaning.specs.declared.scope.Decl.{Decl}
 use Rattle.vlog_meaning.specs.declared.scope.Decl.TheVariants.{Signal, Constant}
-use Rattle.vlog_meaning.specs.Scopes.{Names}
-use Rattle.vlog_meaning.proofs.Blanks.{left_nil, right_nil}
-use Rattle.vlog_effects.specs.LeftSides.{Part, parts_of, part_vector, vector_of}
-use Rattle.vlog_effects.specs.Steps.{Assigning, Steps, Done, Assign, Choose, Case, Refuse, Arms, Otherwise, Arm}
-use Rattle.vlog_effects.specs.Latches.{Target, targets, arms_targets, part_targets, parts_targets}
-use Rattle.elab_proc.specs.declared.refusal.Refusal.{Refusal}
+use Rattle.vlog_effects.specs.Steps.{Assign}
 use Rattle.elab_proc.specs.declared.refusal.Refusal.TheVariants.{Wrong, TwoWriters}
-use Rattle.elab_proc.specs.Refusals.{arm_refusals, assign_refusals, case_faults, is_written, kind_refusals, name_refusals, own_faults, part_refusals, same_form, sides_faults, step_refusals, case_refusals}
-use Rattle.proc_muxes.specs.Builds.{distinct, distinct_after, stands}
-use Rattle.flat_runs.proofs.Lists.{contains_cases, contains_none}
-use Rattle.process_cells.specs.Processes.{variables}
 use Rattle.process_cells.proofs.Accepted.{arms_free}
 
 -- no variable of these has a writer
@@ -82,8 +73,8 @@ new_distinct written seen (x ∷ more) h = go (stands x.is_blocking seen x.numbe
   go false same other = (h.0, other)
 
 new_number : (written : List Bool) (ts : List Target) (k : ℕ) → AllNew written ts → Contains (map (λ x. x.number) ts) k → is_written written k ≡ false
-new_number written [] k h c = absurd (contains_none k c)
-new_number written (x ∷ more) k h c = elim (contains_cases (map (λ y. y.number) more) x.number k c) [
+new_number written [] k h c = absurd (has_none k c)
+new_number written (x ∷ more) k h c = elim (has_cases (map (λ y. y.number) more) x.number k c) [
   | inl e ↦ subst (λ (n : ℕ). is_written written n ≡ false) e h.0
   | inr m ↦ new_number written more k h.1 m
 ]

@@ -1,3 +1,4 @@
+mod Common
 pub mod Inputs
 pub mod Newness
 pub mod Variables

@@ -1,24 +1,13 @@
 -- An assignment in which nothing is refused writes bits that nothing wrote before, each once.
-use Rattle.std.proofs.Common.{◌≡◌, ◌⊎◌, ℕ, Bool, List, [], ◌∷◌, ◌++◌, map, Option, Some, None, refl, sym, ap, subst, inl, inr, append_assoc}
-use Rattle.std.specs.List.{Contains}
+use Rattle.elab_writers.proofs.Common.{◌≡◌, ◌⊎◌, ℕ, Bool, List, [], ◌∷◌, ◌++◌, map, Option, Some, None, refl, sym, subst, inl, inr, append_assoc, Contains, Contains-append_left, Contains-append_right}
+use Rattle.elab_writers.proofs.Common.{Contains-append_cases, Contains-push, Span, Expr, LeftSide, parts_of, Fault, Names, Store, Building, Assign, NamesOnce, IsNew, IsRefusal, assignment_faults}
+use Rattle.elab_writers.proofs.Common.{first_refusal, Slice, all_places, placed, slice_places, slices, AreFlagged, has_cases, has_first, has_more, has_none}
 use Rattle.std.proofs.lemmas.List.{append-nil}
-use Rattle.std.proofs.lemmas.List.Elements.{Contains-append_left, Contains-append_right, Contains-append_cases, Contains-push}
-use Rattle.mcy_base.specs.declared.span.Span.{Span}
-use Rattle.vlog_syntax.specs.declared.expr.Expr.{Expr}
-use Rattle.vlog_syntax.specs.declared.left_side.LeftSide.{LeftSide}
-use Rattle.vlog_effects.specs.LeftSides.{parts_of}
-use Rattle.vlog_meaning.specs.declared.fault.Fault.{Fault}
 use Rattle.vlog_meaning.specs.Answers.{least}
-use Rattle.vlog_meaning.specs.Scopes.{Names, Store}
-use Rattle.net_builder.specs.Building.{Building}
-use Rattle.flat_runs.specs.Meanings.{Assign, NamesOnce, Place}
-use Rattle.flat_runs.specs.Writing.{IsNew}
-use Rattle.flat_runs.proofs.Lists.{contains_cases, contains_first, contains_more, contains_none}
-use Rattle.flat_assigns.specs.Assignments.{IsRefusal, assignment_faults, first_refusal}
+use Rattle.flat_runs.specs.Meanings.{Place}
 use Rattle.flat_assigns.specs.Seen.{places_of}
-use Rattle.flat_assigns.specs.Sides.{Slice, all_places, placed, slice_places, slices}
 use Rattle.flat_assigns.specs.Writers.{HasWriter, IsFirstWritten, Target, bit_targets, targets}
-use Rattle.elab_writers.specs.Numbers.{AreFlagged}
+use Rattle.flat_assigns.proofs.Firsts.{places_append}
 
 grown : (b : Building) (inputs : List Bool) (before : List Place) (q p : Place) → HasWriter b inputs before p → HasWriter b inputs (before ++ q ∷ []) p
 grown b inputs before q p (inl i) = inl i
@@ -27,9 +16,9 @@ grown b inputs before q p (inr (inr c)) = inr (inr (Contains-append_left before 
 
 -- bits of which none has a writer
 passed : (b : Building) (inputs : List Bool) (before : List Place) (ts : List Target) → IsFirstWritten b inputs before ts None → (p : Place) → Contains (places_of ts) p → ¬ HasWriter b inputs before p
-passed b inputs before [] h p c = absurd (contains_none p c)
+passed b inputs before [] h p c = absurd (has_none p c)
 passed b inputs before (t ∷ ts) (inl w) p c = absurd (let e : None ≡ Some t = w.1 in cc)
-passed b inputs before (t ∷ ts) (inr w) p c = λ has. elim (contains_cases (places_of ts) t.place p c) [
+passed b inputs before (t ∷ ts) (inr w) p c = λ has. elim (has_cases (places_of ts) t.place p c) [
   | inl e ↦ w.0 (subst (HasWriter b inputs before) (sym e) has)
   | inr more ↦ passed b inputs (before ++ t.place ∷ []) ts w.1 p more (grown b inputs before t.place p has)
 ]
@@ -42,23 +31,19 @@ both b inputs before (t ∷ ts) us (inr w) =
     let rest = both b inputs (before ++ t.place ∷ []) ts us w.1 in
     (inr (w.0, rest.0), subst (λ (l : List Place). IsFirstWritten b inputs l us None) (append_assoc before (t.place ∷ []) (places_of ts)) rest.1)
 
-places_both : (ts us : List Target) → places_of (ts ++ us) ≡ places_of ts ++ places_of us
-places_both [] us = refl
-places_both (t ∷ ts) us = ap (λ (l : List Place). t.place ∷ l) (places_both ts us)
-
 -- One part.
 
 bit_met : (span : Span) (k : ℕ) (xs : List (Option ℕ)) (p : Place) → Contains (map (placed k) xs) (Some p) → Contains (places_of (bit_targets span k xs)) p
-bit_met span k [] p c = absurd (contains_none (Some p) c)
-bit_met span k (None ∷ more) p c = elim (contains_cases (map (placed k) more) None (Some p) c) [
+bit_met span k [] p c = absurd (has_none (Some p) c)
+bit_met span k (None ∷ more) p c = elim (has_cases (map (placed k) more) None (Some p) c) [
   | inl e ↦ absurd cc
   | inr m ↦ bit_met span k more p m
 ]
 bit_met span k (Some i ∷ more) p c =
     let here : Place = record { signal = k; bit = i } in
-    elim (contains_cases (map (placed k) more) (Some here) (Some p) c) [
-      | inl e ↦ (let same : here ≡ p = cc in subst (Contains (here ∷ places_of (bit_targets span k more))) same (contains_first (places_of (bit_targets span k more)) here))
-      | inr m ↦ contains_more (places_of (bit_targets span k more)) here p (bit_met span k more p m)
+    elim (has_cases (map (placed k) more) (Some here) (Some p) c) [
+      | inl e ↦ (let same : here ≡ p = cc in subst (Contains (here ∷ places_of (bit_targets span k more))) same (has_first (places_of (bit_targets span k more)) here))
+      | inr m ↦ has_more (places_of (bit_targets span k more)) here p (bit_met span k more p m)
     ]
 
 bits_once : (b : Building) (inputs : List Bool) (before : List Place) (span : Span) (k : ℕ) (xs : List (Option ℕ)) → IsFirstWritten b inputs before (bit_targets span k xs) None → NamesOnce (map (placed k) xs)
@@ -72,19 +57,19 @@ bits_once b inputs before span k (Some i ∷ more) (inr w) =
 -- All parts.
 
 met : (ss : List Slice) (p : Place) → Contains (all_places ss) (Some p) → Contains (places_of (targets ss)) p
-met [] p c = absurd (contains_none (Some p) c)
-met (s ∷ more) p c = subst (λ (l : List Place). Contains l p) (sym (places_both (bit_targets s.span s.signal s.bits) (targets more))) (elim (Contains-append_cases (all_places more) (slice_places s) (Some p) c) [
+met [] p c = absurd (has_none (Some p) c)
+met (s ∷ more) p c = subst (λ (l : List Place). Contains l p) (sym (places_append (bit_targets s.span s.signal s.bits) (targets more))) (elim (Contains-append_cases (all_places more) (slice_places s) (Some p) c) [
   | inl m ↦ Contains-append_right (places_of (bit_targets s.span s.signal s.bits)) (places_of (targets more)) p (met more p m)
   | inr m ↦ Contains-append_left (places_of (bit_targets s.span s.signal s.bits)) (places_of (targets more)) p (bit_met s.span s.signal s.bits p m)
 ])
 
 names_both : (xs ys : List (Option Place)) → NamesOnce xs → NamesOnce ys → ((p : Place) → Contains xs (Some p) → ¬ Contains ys (Some p)) → NamesOnce (xs ++ ys)
 names_both [] ys h g apart = g
-names_both (None ∷ xs) ys h g apart = names_both xs ys h g (λ p c. apart p (contains_more xs None (Some p) c))
-names_both (Some q ∷ xs) ys h g apart = (λ c. go (Contains-append_cases xs ys (Some q) c), names_both xs ys h.1 g (λ p c. apart p (contains_more xs (Some q) (Some p) c))) where
+names_both (None ∷ xs) ys h g apart = names_both xs ys h g (λ p c. apart p (has_more xs None (Some p) c))
+names_both (Some q ∷ xs) ys h g apart = (λ c. go (Contains-append_cases xs ys (Some q) c), names_both xs ys h.1 g (λ p c. apart p (has_more xs (Some q) (Some p) c))) where
   go : Contains xs (Some q) ⊎ Contains ys (Some q) → ⊥
   go (inl c) = h.0 c
-  go (inr c) = apart q (contains_first xs (Some q)) c
+  go (inr c) = apart q (has_first xs (Some q)) c
 
 all_once : (b : Building) (inputs : List Bool) (before : List Place) (ss : List Slice) → IsFirstWritten b inputs before (targets ss) None → NamesOnce (all_places ss)
 all_once b inputs before [] h = tt

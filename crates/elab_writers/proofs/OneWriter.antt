@@ -1,44 +1,17 @@
 -- Each item that is built writes bits that nothing wrote before, so that each bit has one writer at most.
-use Rattle.std.proofs.Common.{◌≡◌, ℕ, Bool, List, [], ◌∷◌, Option, None, Some, refl, sym, ap, ◌∙◌, subst}
-use Rattle.std.specs.Prelude.{option_map}
-use Rattle.vlog_syntax.specs.declared.expr.Expr.{Expr}
+use Rattle.elab_writers.proofs.Common.{◌≡◌, ℕ, Bool, List, [], ◌∷◌, Option, None, Some, refl, sym, ap, ◌∙◌, subst, option_map, Expr, Process, LeftSide, Part, parts_of, Names, Store, Building, Refusal}
+use Rattle.elab_writers.proofs.Common.{same_form, Meaning, Assign, places_from, HasOneWriter, IsNew, writer_stays, IsRefusal, assignment, left_width, slices, process_refusals, AcceptedCanBeBuilt}
+use Rattle.elab_writers.proofs.Common.{Widths, AddsMeaning, process_meaning, widths_in, Flat, Place, FlatItem, Clocks, Builds, IsNewPort, Refuses, RefusesProcess, RefusesSides, Stands, found_in}
+use Rattle.elab_writers.proofs.Common.{Means, names_at, BuildsAll, HasWriter, builds_stand, ItemsHaveOneWriter, AreFlagged}
 use Rattle.vlog_syntax.specs.declared.expr.Expr.TheVariants as e
-use Rattle.vlog_syntax.specs.declared.item.Process.{Process}
-use Rattle.vlog_syntax.specs.declared.left_side.LeftSide.{LeftSide}
 use Rattle.vlog_syntax.specs.declared.left_side.LeftSide.TheVariants as l
-use Rattle.vlog_effects.specs.LeftSides.{Part, parts_of}
-use Rattle.vlog_meaning.specs.Scopes.{Names, Store}
-use Rattle.net_builder.specs.Building.{Building}
-use Rattle.elab_proc.specs.declared.refusal.Refusal.{Refusal}
 use Rattle.elab_proc.specs.Order.{IsFirst}
-use Rattle.elab_proc.specs.Refusals.{same_form}
 use Rattle.elab_proc.proofs.Forms.{left_once}
-use Rattle.flat_runs.specs.Meanings.{Meaning, Assign}
-use Rattle.flat_runs.specs.Parts.{places_from}
-use Rattle.flat_runs.specs.Writing.{HasOneWriter, IsNew}
-use Rattle.flat_runs.proofs.Writing.{writer_stays}
 use Rattle.flat_assigns.specs.declared.refusal.Refusal.{Refusal as AssignRefusal}
-use Rattle.flat_assigns.specs.Assignments.{IsRefusal, assignment}
-use Rattle.flat_assigns.specs.Sides.{left_width, slices}
 use Rattle.flat_assigns.specs.Values.{right_value}
 use Rattle.flat_assigns.specs.Writers.{IsFirstWritten, targets}
-use Rattle.process_latches.specs.Refused.{process_refusals}
-use Rattle.process_cells.specs.Laws.{AcceptedCanBeBuilt}
-use Rattle.process_cells.specs.Items.{Widths, AddsMeaning, process_meaning, widths_in}
-use Rattle.flat_items.specs.Flattened.{Flat}
-use Rattle.flat_instances.specs.Places.{Place}
-use Rattle.flat_instances.specs.declared.item.FlatItem.{FlatItem}
 use Rattle.flat_instances.specs.declared.item.FlatItem.TheVariants as f
-use Rattle.flat_clocks.specs.Clocks.{Clocks}
 use Rattle.elab_items.specs.declared.error.Reason.TheVariants.{Found}
-use Rattle.elab_items.specs.Items.{Builds, IsNewPort, Refuses, RefusesProcess, RefusesSides, Stands, found_in}
-use Rattle.elab_items.specs.Meanings.{Means}
-use Rattle.elab_items.specs.Starts.{names_at}
-use Rattle.elab_items.specs.Timed.{BuildsAll}
-use Rattle.elab_items.specs.Writers.{HasWriter}
-use Rattle.elab_items.proofs.Standing.{builds_stand}
-use Rattle.elab_writers.specs.Laws.{ItemsHaveOneWriter}
-use Rattle.elab_writers.specs.Numbers.{AreFlagged}
 use Rattle.elab_writers.proofs.Inputs.{port_new}
 use Rattle.elab_writers.proofs.Newness.{none_written, slices_new}
 use Rattle.elab_writers.proofs.Processes.{process_new}

@@ -1,12 +1,9 @@
 -- A process in which nothing is refused assigns variables that have no writer before, each once.
-use Rattle.std.proofs.Common.{◌≡◌, ℕ, zero, suc, ◌<◌, Bool, true, false, IsTrue, List, [], ◌∷◌, ◌++◌, length, Some, refl, sym, ◌∙◌, subst, arith}
-use Rattle.std.specs.Prelude.{if◌then◌else◌, slice_index_or}
-use Rattle.std.specs.List.{Contains}
-use Rattle.mcy_base.specs.declared.span.Span.{Span}
-use Rattle.vlog_syntax.specs.declared.feature.Feature.{Feature}
+use Rattle.elab_writers.proofs.Common.{◌≡◌, ℕ, zero, suc, ◌<◌, Bool, true, false, IsTrue, List, [], ◌∷◌, ◌++◌, length, Some, refl, sym, ◌∙◌, subst, arith, slice_index_or, Contains, Span, Identifier}
+use Rattle.elab_writers.proofs.Common.{Process, Names, Store, left_nil, right_nil, targets, Steps, steps_of, Bit, Building, signal, is_written, step_refusals, Meaning, Combinational, Clocked}
+use Rattle.elab_writers.proofs.Common.{NoneTwice, IsNew, body_refusals, control_refusals, latch_refusals, process_refusals, refusals_by, waiting_refusals, Widths, effect_of, meaning_of}
+use Rattle.elab_writers.proofs.Common.{process_meaning, process_steps, statement, AcceptedCanBeBuilt, HasOneKind, has_blocking, variables, HasWriter, TellsWriters, AreFlagged}
 use Rattle.vlog_syntax.specs.declared.feature.Feature.TheVariants.{Delay, ClockList}
-use Rattle.vlog_syntax.specs.declared.identifier.Identifier.{Identifier}
-use Rattle.vlog_syntax.specs.declared.item.Process.{Process}
 use Rattle.vlog_syntax.specs.declared.item.ProcessKind.{ProcessKind}
 use Rattle.vlog_syntax.specs.declared.item.ProcessKind.TheVariants as k
 use Rattle.vlog_syntax.specs.declared.stmt.CaseItem.{CaseItem}
@@ -14,29 +11,15 @@ use Rattle.vlog_syntax.specs.declared.stmt.EventControl.{EventControl}
 use Rattle.vlog_syntax.specs.declared.stmt.Stmt.{Stmt, out-Stmt}
 use Rattle.vlog_syntax.specs.declared.stmt.Stmt.TheOpen as s
 use Rattle.vlog_syntax.specs.declared.stmt.Stmt.TheOpen.{Stmt-F}
-use Rattle.vlog_meaning.specs.Scopes.{Names, Store}
-use Rattle.vlog_meaning.proofs.Blanks.{left_nil, right_nil}
-use Rattle.vlog_effects.specs.Latches.{targets}
-use Rattle.vlog_effects.specs.Steps.{Steps, steps_of}
-use Rattle.netlist_core.specs.declared.bit.Bit.{Bit}
-use Rattle.net_builder.specs.Building.{Building, signal}
-use Rattle.elab_proc.specs.Refusals.{is_written, step_refusals}
-use Rattle.flat_runs.specs.Meanings.{Meaning, Combinational, Clocked, NoneTwice}
-use Rattle.flat_runs.specs.Writing.{IsNew}
 use Rattle.process_events.specs.Events as v
 use Rattle.process_events.specs.Events.{Sensitivity, Refused, is_toggle, of_always, of_kind, sensitivity}
 use Rattle.process_latches.specs.Mixed.{mixed_refusals}
-use Rattle.process_latches.specs.Refused.{body_refusals, control_refusals, latch_refusals, process_refusals, refusals_by, waiting_refusals}
 use Rattle.process_latches.specs.Sound.{sound}
 use Rattle.process_latches.specs.Writes.{writes}
-use Rattle.process_cells.specs.Items.{Widths, effect_of, meaning_of, process_meaning, process_steps, statement}
-use Rattle.process_cells.specs.Laws.{AcceptedCanBeBuilt}
-use Rattle.process_cells.specs.Processes.{HasOneKind, has_blocking, variables}
-use Rattle.elab_items.specs.Writers.{HasWriter, TellsWriters}
-use Rattle.elab_writers.specs.Numbers.{AreFlagged}
 use Rattle.elab_writers.proofs.Fresh.{variables_new}
 use Rattle.elab_writers.proofs.Inputs.{free_bits, free_input}
 use Rattle.elab_writers.proofs.Variables.{numbers_once}
+use Rattle.process_cells.proofs.Fits.{waits_not}
 
 -- Variables that have no writer.
 
@@ -80,10 +63,6 @@ body_free built comb names written always control inner e =
     let steps : Steps = steps_of inner names in
     let f = right_nil (control_refusals names control) (step_refusals comb written steps ++ (mixed_refusals (writes (sound steps)) ++ latch_refusals comb always (sound steps))) e in
     (left_nil (step_refusals comb written steps) (mixed_refusals (writes (sound steps)) ++ latch_refusals comb always (sound steps)) f, (built comb names written always control inner e).kinds)
-
-waits_not : (b : Bool) (x y : Span) (p q : Feature) (when : Sensitivity) → (if b then Refused x p else Refused y q) ≡ when → (at : Span) × (feature : Feature) × (Refused at feature ≡ when)
-waits_not true x y p q when e = (x, p, e)
-waits_not false x y p q when e = (y, q, e)
 
 changing_free : AcceptedCanBeBuilt → (names : Names) (written : List Bool) (always : Span) (body : Stmt) (f : Stmt-F Stmt CaseItem) → of_always always f ≡ v.Combinational → waiting_refusals true names written always f ≡ [] → IsFree true written (steps_of (statement body f) names)
 changing_free built names written always body (s.EventControl at control inner) e none = body_free built true names written always control inner none

@@ -1,79 +1,47 @@
 -- A builder in which all items are built is that of the design: its registers are the design's, in the order of their declarations.
-use Rattle.std.proofs.Common.{◌≡◌, ◌↔◌, ◌⊎◌, inl, inr, ℕ, ◌<◌, ◌≤◌, Bool, true, false, List, [], ◌∷◌, ◌++◌, map, length, get_or, refl, sym, ap, ◌∙◌, subst, arith}
-use Rattle.std.specs.Prelude.{◌||◌, nat_eq, slice_index_or, if◌then◌else◌}
-use Rattle.std.specs.List.{Contains}
-use Rattle.std.proofs.lemmas.Bool.Decides.{eqb_tells, nat_tests}
-use Rattle.std.proofs.lemmas.List.Elements.{Contains-append_cases, Contains-append_left, Contains-append_right}
-use Rattle.netlist_core.specs.declared.bit.Bit.{Bit}
-use Rattle.netlist_core.specs.declared.port.Register.{Register}
+use Rattle.elab_writers.proofs.Common.{◌≡◌, ◌↔◌, inl, inr, ℕ, ◌<◌, ◌≤◌, Bool, true, false, List, [], ◌∷◌, ◌++◌, map, length, get_or, refl, sym, ap, ◌∙◌, subst, nat_eq, slice_index_or, if◌then◌else◌}
+use Rattle.elab_writers.proofs.Common.{Contains, Contains-append_cases, Contains-append_left, Contains-append_right, Bit, Register, Building, signal, Meaning, Assign, Combinational, Clocked}
+use Rattle.elab_writers.proofs.Common.{all_stored, AddsItems, HasOwnNets, registers_stored, FlatItem, AllStand, has, registers_of, some_stores, Stands, is_register, registers_in, signals_have}
+use Rattle.elab_writers.proofs.Common.{BuildersAreOfDesigns, declared_numbers, nat_eq_same, has_cases, has_first, has_more, has_none}
 use Rattle.netlist_core.specs.Runs.{q_bits}
-use Rattle.net_builder.specs.Building.{Building, signal}
-use Rattle.flat_runs.specs.Meanings.{Meaning, Assign, Combinational, Clocked, all_stored}
-use Rattle.flat_runs.specs.Adding.{AddsItems, HasOwnNets}
 use Rattle.flat_runs.specs.Designs.{Design}
-use Rattle.flat_runs.proofs.Lists.{contains_cases, contains_first, contains_more, contains_none}
-use Rattle.flat_runs.proofs.Writing.{registers_of as registers_stored}
-use Rattle.flat_instances.specs.declared.item.FlatItem.{FlatItem}
 use Rattle.flat_instances.specs.declared.item.FlatItem.TheVariants as f
-use Rattle.flat_laws.specs.Sound.{AllStand}
-use Rattle.elab_items.specs.Designs.{has, registers_of, some_stores}
-use Rattle.elab_items.specs.Items.{Stands}
-use Rattle.elab_finish.specs.Endings.{is_register, registers_in}
-use Rattle.elab_finish.proofs.Registering.{signals_have}
-use Rattle.elab_writers.specs.Laws.{BuildersAreOfDesigns}
-use Rattle.elab_writers.specs.Numbers.{declared_numbers}
 use Rattle.elab_writers.proofs.Finishing.{all_same, all_stand, first_stands, last_count, no_first_registers}
+use Rattle.std.proofs.lemmas.Bool.{or_cases, or_left, or_right}
+use Rattle.std.proofs.lemmas.Map.Views.{exact_unsigned_eq}
 
 -- Variables of clocked processes.
 
-either_cases : (a b : Bool) → (a || b) ≡ true → (a ≡ true) ⊎ (b ≡ true)
-either_cases true b e = inl refl
-either_cases false b e = inr e
-
-either_left : (a b : Bool) → a ≡ true → (a || b) ≡ true
-either_left true b e = refl
-either_left false b e = absurd cc
-
-either_right : (a b : Bool) → b ≡ true → (a || b) ≡ true
-either_right true b e = refl
-either_right false b e = e
-
-same_number : (k : ℕ) → nat_eq k k ≡ true
-same_number k = grind (arith, nat_tests)
-
-number_same : (n k : ℕ) → nat_eq n k ≡ true → n ≡ k
-number_same n k e = elim (eqb_tells n k) [ inl t ↦ t.1 | inr t ↦ (let no : true ≡ false = sym e ∙ t.0 in absurd cc) ]
-
 has_contains : (ks : List ℕ) (k : ℕ) → has ks k ≡ true → Contains ks k
 has_contains [] k e = absurd cc
-has_contains (n ∷ ks) k e = elim (either_cases (nat_eq n k) (has ks k) e) [
-  | inl here ↦ subst (Contains (n ∷ ks)) (number_same n k here) (contains_first ks n)
-  | inr more ↦ contains_more ks n k (has_contains ks k more)
+has_contains (n ∷ ks) k e = elim (or_cases (nat_eq n k) (has ks k) e) [
+  | inl here ↦ subst (Contains (n ∷ ks)) (exact_unsigned_eq n k here) (has_first ks n)
+  | inr more ↦ has_more ks n k (has_contains ks k more)
 ]
 
 contains_has : (ks : List ℕ) (k : ℕ) → Contains ks k → has ks k ≡ true
-contains_has [] k c = absurd (contains_none k c)
-contains_has (n ∷ ks) k c = elim (contains_cases ks n k c) [
-  | inl e ↦ either_left (nat_eq n k) (has ks k) (subst (λ (j : ℕ). nat_eq n j ≡ true) e (same_number n))
-  | inr m ↦ either_right (nat_eq n k) (has ks k) (contains_has ks k m)
+contains_has [] k c = absurd (has_none k c)
+contains_has (n ∷ ks) k c = elim (has_cases ks n k c) [
+  | inl e ↦ or_left (nat_eq n k) (has ks k) (subst (λ (j : ℕ). nat_eq n j ≡ true) e (nat_eq_same n))
+  | inr m ↦ or_right (nat_eq n k) (has ks k) (contains_has ks k m)
 ]
 
 stored : (ms : List Meaning) (k : ℕ) → some_stores ms k ≡ true → Contains (all_stored ms) k
 stored [] k e = absurd cc
 stored (Assign left value ∷ ms) k e = stored ms k e
 stored (Combinational ks effect ∷ ms) k e = stored ms k e
-stored (Clocked ks effect ∷ ms) k e = elim (either_cases (has ks k) (some_stores ms k) e) [
+stored (Clocked ks effect ∷ ms) k e = elim (or_cases (has ks k) (some_stores ms k) e) [
   | inl here ↦ Contains-append_left ks (all_stored ms) k (has_contains ks k here)
   | inr more ↦ Contains-append_right ks (all_stored ms) k (stored ms k more)
 ]
 
 stores_all : (ms : List Meaning) (k : ℕ) → Contains (all_stored ms) k → some_stores ms k ≡ true
-stores_all [] k c = absurd (contains_none k c)
+stores_all [] k c = absurd (has_none k c)
 stores_all (Assign left value ∷ ms) k c = stores_all ms k c
 stores_all (Combinational ks effect ∷ ms) k c = stores_all ms k c
 stores_all (Clocked ks effect ∷ ms) k c = elim (Contains-append_cases ks (all_stored ms) k c) [
-  | inl here ↦ either_left (has ks k) (some_stores ms k) (contains_has ks k here)
-  | inr more ↦ either_right (has ks k) (some_stores ms k) (stores_all ms k more)
+  | inl here ↦ or_left (has ks k) (some_stores ms k) (contains_has ks k here)
+  | inr more ↦ or_right (has ks k) (some_stores ms k) (stores_all ms k more)
 ]
 
 -- Registers in the order of the declarations.

@@ -1,22 +1,10 @@
 -- The first place at which two lists, or two steps, differ.
-use Rattle.std.proofs.Common.{◌≡◌, ◌≢◌, ℕ, suc, ◌+◌, ◌<◌, ◌≤◌, List, [], ◌∷◌, length, map, get_or, Some, refl, sym, ap, subst, ◌∙◌, inl, inr, arith}
-use Rattle.std.specs.Prelude.{slice_get}
+use Rattle.equiv_test.proofs.Common.{◌≡◌, ◌≢◌, ℕ, suc, ◌+◌, ◌<◌, ◌≤◌, List, [], ◌∷◌, length, map, get_or, Some, refl, sym, ap, subst, ◌∙◌, inl, inr, arith, slice_get, length-map, Word, Bit, Port}
+use Rattle.equiv_test.proofs.Common.{Register, number, Nets, plain, values, Holds, bits_at, q_bits, shown, taken, Plan, IsSound, AllWide, AllRegistersFit, all_bits, OneAnswerBySight, HaveWidths}
+use Rattle.equiv_test.proofs.Common.{Differ, AreSameWide, DifferFirst}
 use Rattle.std.proofs.lemmas.Bool.{cases_lt}
 use Rattle.std.proofs.lemmas.Option.{slice_get-get_or, same_Some}
-use Rattle.std.proofs.lemmas.List.{length-map}
-use Rattle.mcy_base.specs.declared.word.Word.{Word}
-use Rattle.netlist_core.specs.declared.bit.Bit.{Bit}
-use Rattle.netlist_core.specs.declared.port.Port.{Port}
-use Rattle.netlist_core.specs.declared.port.Register.{Register}
-use Rattle.netlist_core.specs.Numbers.{number}
-use Rattle.netlist_core.specs.Runs.{Nets, plain, values, Holds, bits_at, q_bits, shown, taken}
-use Rattle.netlist_core.specs.Checked.{Plan, IsSound, AllWide, AllRegistersFit, all_bits}
-use Rattle.netlist_core.specs.Solutions.{OneAnswerBySight}
 use Rattle.netlist_core.proofs.Settles.{plain-causal}
-use Rattle.cycle_sim.specs.Simulated.{HaveWidths}
-use Rattle.pair_gates.specs.Differences.{Differ}
-use Rattle.pair_gates.proofs.Widths.{AreSameWide}
-use Rattle.equiv_test.specs.Verdicts.{DifferFirst}
 
 -- numbers that are the same up to a place at which they aren't
 pub differ-first : (xs ys : List ℕ) (place : ℕ) → place < length xs → place < length ys → get_or xs place 0 ≢ get_or ys place 0 → ((k : ℕ) → k < place → slice_get xs k ≡ slice_get ys k) → DifferFirst xs ys place
@@ -59,10 +47,6 @@ taken-long nets k (r ∷ more) = ap suc (taken-long nets (k + 1) more)
 pub ports-few : (ports : List Port) → AllWide (bits_at ports) → length ports ≤ all_bits (bits_at ports)
 ports-few [] wide = omega arith
 ports-few (p ∷ more) wide = (let rest = ports-few more wide.2 in let some = wide.0 in omega (arith, rest, some))
-
-pub registers-few : (registers : List Register) → AllRegistersFit registers → length registers ≤ all_bits (q_bits registers)
-registers-few [] fit = omega arith
-registers-few (r ∷ more) fit = (let rest = registers-few more fit.2 in let same = fit.1 in let some = r.start.some in omega (arith, rest, same, some))
 
 pub registers-wide : (registers : List Register) → AllRegistersFit registers → AllWide (q_bits registers)
 registers-wide [] fit = tt

@@ -1,16 +1,9 @@
 -- A job that goes on.
-use Rattle.std.proofs.Common.{◌≡◌, ℕ, ◌+◌, ◌<◌, ◌≤◌, List, ◌++◌, length, Option, Some, None, refl, sym, ap, subst, ◌∙◌, arith, ℤ}
-use Rattle.std.specs.Prelude.{Result, Ok, Err, IsErrAnd, IfErr, IsSome, MatchOption, ⊤}
-use Rattle.netlist_core.specs.Checked.{Plan, IsSound, free_bits}
-use Rattle.sat_solver.specs.Found.{Hunt, IsRunning}
-use Rattle.pair_gates.specs.Matching.{AreAlike}
+use Rattle.equiv_test.proofs.Common.{◌≡◌, ℕ, ◌+◌, ◌<◌, ◌≤◌, List, ◌++◌, length, Option, Some, None, refl, sym, ap, subst, ◌∙◌, arith, ℤ, Result, Ok, Err, IsErrAnd, IfErr, IsSome, MatchOption, ⊤, Plan}
+use Rattle.equiv_test.proofs.Common.{IsSound, free_bits, Hunt, IsRunning, AreAlike, pair_clauses, TellDifferences, Difference, Job, IsJob, GoesOn, IsPairSearch, HasSeen, lemmas_in, lemmas_of}
 use Rattle.pair_gates.specs.Refusals.{IsRefused, IsAccepted, max_free}
 use Rattle.pair_gates.specs.declared.error.EncodeError.{EncodeError}
 use Rattle.pair_gates.specs.declared.error.EncodeError.TheVariants.{Memory}
-use Rattle.pair_gates.specs.Copies.{pair_clauses}
-use Rattle.pair_gates.specs.Differences.{TellDifferences}
-use Rattle.equiv_test.specs.declared.verdict.Difference.{Difference}
-use Rattle.equiv_test.specs.Jobs.{Job, IsJob, GoesOn, IsPairSearch, HasSeen, lemmas_in, lemmas_of}
 use Rattle.equiv_test.specs.Turns.{CanGoOn}
 use Rattle.equiv_test.proofs.Telling.{some-is}
 

@@ -1,3 +1,4 @@
+mod Common
 mod Reading
 mod Apart
 mod Telling

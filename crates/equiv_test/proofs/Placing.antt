@@ -1,16 +1,10 @@
 -- The place at which two simulated steps differ, or that they don't.
-use Rattle.std.proofs.Common.{◌≡◌, ℕ, ◌+◌, ◌≤◌, List, length, sym, ap, subst, ◌∙◌, arith}
-use Rattle.std.proofs.lemmas.List.{length-map}
-use Rattle.netlist_core.specs.declared.raw.RawNetlist.{RawNetlist}
-use Rattle.netlist_core.specs.Runs.{Nets, plain, Holds, bits_at, q_bits, shown, taken}
+use Rattle.equiv_test.proofs.Common.{◌≡◌, ℕ, ◌+◌, ◌≤◌, List, length, sym, ap, subst, ◌∙◌, arith, length-map, RawNetlist, Nets, plain, Holds, bits_at, q_bits, shown, taken, Plan, IsSound, all_bits}
+use Rattle.equiv_test.proofs.Common.{OneAnswerBySight, Named, AreAlike, port_named, register_named, Differ, DifferFirst, DifferAt}
 use Rattle.netlist_core.specs.Drivers.{y_bits}
-use Rattle.netlist_core.specs.Checked.{Plan, IsSound, all_bits}
-use Rattle.netlist_core.specs.Solutions.{OneAnswerBySight}
-use Rattle.pair_gates.specs.Matching.{Named, AreAlike, port_named, register_named}
-use Rattle.pair_gates.specs.Differences.{Differ}
 use Rattle.equiv_test.specs.declared.verdict.DiffPlace.TheVariants.{Output, Register}
-use Rattle.equiv_test.specs.Verdicts.{DifferFirst, DifferAt}
-use Rattle.equiv_test.proofs.Apart.{ports-few, registers-few, not-differ}
+use Rattle.equiv_test.proofs.Apart.{ports-few, not-differ}
+use Rattle.cycle_sim.proofs.Plans.{registers-few}
 
 -- How many outputs and registers there are.
 

@@ -1,27 +1,15 @@
 -- Words of ports, one port after the other, from variables.
-use Rattle.std.proofs.Common.{◌≡◌, ℕ, zero, suc, ◌+◌, ◌*◌, ◌^◌, ◌-◌, ◌<◌, ◌≤◌, List, [], ◌∷◌, ◌++◌, length, take, drop, get_or, refl, sym, ap, subst, ◌∙◌, arith}
-use Rattle.std.proofs.lemmas.List.{drop_more, take_more, take_all, drop_all, append_assoc, append-nil, map-append, get_or-map, length-map}
-use Rattle.clause_store.specs.Clauses.{Values}
-use Rattle.mcy_base.specs.declared.word.Word.{Word}
-use Rattle.netlist_core.specs.declared.bit.Bit.{Bit}
-use Rattle.netlist_core.specs.declared.port.Port.{Port}
-use Rattle.netlist_core.specs.declared.port.Register.{Register}
-use Rattle.netlist_core.specs.Numbers.{number}
-use Rattle.netlist_core.specs.Runs.{bits_at, q_bits}
-use Rattle.netlist_core.specs.Checked.{AllWide, all_bits}
+use Rattle.equiv_test.proofs.Common.{◌≡◌, ℕ, zero, suc, ◌+◌, ◌*◌, ◌^◌, ◌-◌, ◌<◌, ◌≤◌, List, [], ◌∷◌, ◌++◌, length, take, drop, get_or, sym, ap, subst, ◌∙◌, arith, drop_more, take_more, take_all}
+use Rattle.equiv_test.proofs.Common.{drop_all, append_assoc, append-nil, map-append, get_or-map, length-map, Values, Word, Bit, Port, Register, number, bits_at, q_bits, all_bits, free_numbers}
+use Rattle.equiv_test.proofs.Common.{HaveWidths, numbers_of}
 use Rattle.gate_words.specs.Bits.{lit_values}
 use Rattle.netlist_gates.specs.NetLits.{variables}
-use Rattle.netlist_gates.specs.Meanings.{free_numbers}
-use Rattle.cycle_sim.specs.Simulated.{HaveWidths, numbers_of}
 
 -- what was read of ports up to this one, and what is left to read
 pub record Laid (values : Values) (ports : List (List Bit)) (first i next : ℕ) (words : List Word) : Type 0 where
   pub widths : HaveWidths (take i ports) words
   pub numbers : numbers_of words ++ free_numbers values next (drop i ports) ≡ free_numbers values first ports
   pub ahead : next + all_bits (drop i ports) ≡ first + all_bits ports
-
-pub laid-none : (values : Values) (ports : List (List Bit)) (first : ℕ) → Laid values ports first 0 first []
-laid-none values ports first = record { widths = tt; numbers = refl; ahead = refl }
 
 widths-push : (ports : List (List Bit)) (words : List Word) (bits : List Bit) (w : Word) → HaveWidths ports words → w.width ≡ length bits → HaveWidths (ports ++ bits ∷ []) (words ++ w ∷ [])
 widths-push [] [] bits w have is = (is, tt)
@@ -67,11 +55,6 @@ module _ (values : Values) (ports : List (List Bit)) (first i next : ℕ) (words
 
   pub all-next : next ≡ first + all_bits ports
   all-next = (let sum = laid.ahead in let left : all_bits (drop i ports) ≡ 0 = ap all_bits none in omega (arith, sum, left))
-
-pub wide-at : (ports : List (List Bit)) (i : ℕ) → AllWide ports → i < length ports → (1 ≤ length (get_or ports i [])) × (length (get_or ports i []) ≤ 128)
-wide-at [] i wide inside = absurd (omega (arith, inside))
-wide-at (bits ∷ more) zero wide inside = (wide.0, wide.1)
-wide-at (bits ∷ more) (suc i) wide inside = wide-at more i wide.2 (omega (arith, inside))
 
 -- a bit more doubles the bound
 pub doubled-fits : (r width : ℕ) → r < 2 ^ (width - 1) → 0 < width → 1 + 2 * r < 2 ^ width

@@ -1,21 +1,10 @@
 -- What a verdict tells, and how a search goes on.
-use Rattle.std.proofs.Common.{◌≡◌, ℕ, ◌<◌, ◌^◌, List, Option, Some, None, refl, sym, ap, subst, ◌∙◌, ℤ}
-use Rattle.std.specs.Prelude.{Result, Ok, Err, IsSome, MatchOption, IfOk, slice_get}
-use Rattle.clause_store.specs.Clauses.{Values, IsModel}
-use Rattle.netlist_core.specs.declared.raw.RawNetlist.{RawNetlist}
-use Rattle.netlist_core.specs.Checked.{Plan, free_bits}
-use Rattle.lrat_checker.specs.LegalLogs.{Log, IsRefutation, IsAttempt}
-use Rattle.sat_solver.specs.Found.{Hunt, IsContinued}
+use Rattle.equiv_test.proofs.Common.{◌≡◌, ℕ, ◌<◌, ◌^◌, List, Option, Some, None, refl, sym, ap, subst, ◌∙◌, ℤ, Result, Ok, Err, IsSome, MatchOption, IfOk, slice_get, Values, IsModel, RawNetlist, Plan}
+use Rattle.equiv_test.proofs.Common.{free_bits, Log, IsRefutation, IsAttempt, Hunt, IsContinued, input_numbers, register_numbers, pair_clauses, TellDifferences, Differ, Difference, NoChange, Change}
+use Rattle.equiv_test.proofs.Common.{Unknown, DifferAt, Shows, IsOfPair, Tells, IsPairSearch, HasSeen}
 use Rattle.step_trials.specs.Equal.{design, OneStepEqual}
-use Rattle.netlist_gates.specs.Meanings.{input_numbers, register_numbers}
-use Rattle.pair_gates.specs.Copies.{pair_clauses}
-use Rattle.pair_gates.specs.Differences.{TellDifferences, Differ}
 use Rattle.equiv_test.specs.declared.verdict.DiffPlace.{DiffPlace}
 use Rattle.equiv_test.specs.declared.verdict.DiffPlace.TheVariants.{Output, Register}
-use Rattle.equiv_test.specs.declared.verdict.Difference.{Difference}
-use Rattle.equiv_test.specs.declared.verdict.EqVerdict.TheVariants.{NoChange, Change, Unknown}
-use Rattle.equiv_test.specs.Verdicts.{DifferAt, Shows, IsOfPair, Tells}
-use Rattle.equiv_test.specs.Jobs.{IsPairSearch, HasSeen}
 
 -- netlists that differ somewhere are not equal in one step
 pub not-equal : (a b : RawNetlist) (inputs state : List ℕ) (place : DiffPlace) → DifferAt a b inputs state place → ¬ OneStepEqual (design a) (design b)

@@ -50,6 +50,8 @@ pub record GoesOn (old new : Job) (most : ℕ) : Type 0 where
   pub lemmas : lemmas_of new ≡ lemmas_of old ++ more
   pub few : length more ≤ most
 
+-- For proofs alone.
+
 -- a search of the pair's clauses, with at most so many lemmas
 pub record IsPairSearch (a b : Plan) (most : ℕ) (hunt : Hunt) : Type 0 where
   pub clauses : hunt.log.clauses ≡ pair_clauses a b

@@ -6,6 +6,8 @@ use Rattle.equiv_test.specs.Verdicts.{Tells}
 use Rattle.equiv_test.specs.declared.turning.Turned.{Turned}
 use Rattle.equiv_test.specs.declared.turning.Turned.TheVariants.{Unfinished, Finished, OutOfMemory}
 
+-- For proofs alone.
+
 -- the search goes on from the one before, with at most so many lemmas more
 abbrev pub CanGoOn : Hunt → ℕ → Hunt → Type 0
 CanGoOn before most after = IsRunning after × IsContinued before after most

@@ -1,19 +1,14 @@
 -- The place that an index names, as the bits of a cell tell it.
-use Rattle.std.proofs.Common.{◌≡◌, ℕ, ◌+◌, ◌-◌, ◌*◌, ◌/◌, ◌%◌, ◌<◌, ◌≤◌, ◌^◌, ◌&&◌, Bool, true, false, pos, negsuc, refl, sym, ap, ◌∙◌, arith, subst, nat_le, nat_lt}
+use Rattle.expr_plans.proofs.Common.{◌≡◌, ℕ, ◌+◌, ◌-◌, ◌*◌, ◌/◌, ◌%◌, ◌<◌, ◌≤◌, ◌^◌, ◌&&◌, Bool, true, false, pos, refl, sym, ap, ◌∙◌, arith, nat_le, nat_lt, Span, Fault, Shape, decl_low, Sense}
+use Rattle.expr_plans.proofs.Common.{fault, is_empty, index_features, base_features, index_width}
 use Rattle.std.specs.Prelude.{Option, List, [], ◌∷◌, ◌||◌, ◌==◌, not, if◌then◌else◌}
-use Rattle.mcy_base.specs.declared.span.Span.{Span}
 use Rattle.std.proofs.lemmas.Bool.Decides.{nat_tests}
-use Rattle.std.proofs.lemmas.Nat.{pow_pos, pow-add}
+use Rattle.std.proofs.lemmas.Nat.{pow-add}
 use Rattle.vlog_meaning.specs.declared.fault.Cause.TheVariants.{IndexedBase}
-use Rattle.vlog_meaning.specs.declared.fault.Fault.{Fault}
 use Rattle.vlog_meaning.specs.declared.scope.Decl.{Decl}
-use Rattle.vlog_meaning.specs.declared.shapes.Shape.{Shape}
 use Rattle.vlog_meaning.specs.Integers.{is_negative, integer, extended, window}
-use Rattle.vlog_meaning.specs.Scopes.{decl_low}
-use Rattle.vlog_meaning.specs.Senses.{Sense, fault, is_empty, index_features}
 use Rattle.vlog_meaning.proofs.Powers.{power_le, no_bits_left, shifted_out}
 use Rattle.vlog_meaning.proofs.Signs.{integer_negative, integer_positive, extended_negative, extended_positive}
-use Rattle.expr_plans.specs.Made.{base_features, index_width}
 
 wide_by : (b : Bool) (w : ℕ) → nat_lt w 9 ≡ b → w ≤ (if b then 9 else w)
 wide_by true w e = grind (arith, nat_tests)

@@ -1,2 +1,4 @@
+mod Common
 pub mod Indices
+pub mod Fusion
 pub mod Plans

@@ -1,27 +1,17 @@
 -- What is planned for an expression of each production, from what is planned for its parts.
-use Rattle.std.proofs.Common.{◌≡◌, ℕ, List, [], ◌∷◌, ◌++◌, map, Bool, true, false, ◌&&◌, refl, sym, ap, ◌∙◌, subst, take, zero, suc, get_or, ◌<◌, length, arith, append_assoc}
+use Rattle.expr_plans.proofs.Common.{◌≡◌, ℕ, List, [], ◌∷◌, ◌++◌, Bool, true, false, ◌&&◌, refl, sym, ap, ◌∙◌, take, zero, suc, get_or, ◌<◌, length, arith, append_assoc, Span, Expr, fold-roll-Expr}
+use Rattle.expr_plans.proofs.Common.{Fault, Shape, least, earlier, Names, Store, Sense, sense, step, is_empty, binary_features, least_empty, pair_first, Plan, plan, plans, plan_step, all_unsupported}
 use Rattle.std.specs.Prelude.{Option, None, Some, is_none}
-use Rattle.mcy_base.specs.declared.span.Span.{Span}
 use Rattle.vlog_syntax.specs.declared.identifier.Number.{Number}
 use Rattle.vlog_syntax.specs.declared.identifier.Identifier.{Identifier}
 use Rattle.vlog_syntax.specs.declared.operator.UnaryOperator.{UnaryOperator}
 use Rattle.vlog_syntax.specs.declared.operator.BinaryOperator.{BinaryOperator}
-use Rattle.vlog_syntax.specs.declared.expr.Expr.{Expr}
 use Rattle.vlog_syntax.specs.declared.expr.Expr.TheOpen as e
-use Rattle.vlog_syntax.specs.declared.expr.Expr.TheOpen.{Expr-F}
 use Rattle.vlog_syntax.specs.declared.expr.Expr.TheVariants as v
-use Rattle.vlog_syntax.specs.declared.expr.Expr.TheViews.{roll-Expr}
-use Rattle.vlog_syntax.specs.declared.expr.Expr.TheFolds.{fold-roll-Expr, ind-Expr, map-Expr}
 use Rattle.vlog_syntax.specs.Places.{first_token, first_step}
-use Rattle.vlog_meaning.specs.declared.fault.Fault.{Fault}
-use Rattle.vlog_meaning.specs.declared.shapes.Shape.{Shape}
-use Rattle.vlog_meaning.specs.Answers.{least, earlier}
-use Rattle.vlog_meaning.specs.Scopes.{Names, Store}
-use Rattle.vlog_meaning.specs.Senses.{Sense, sense, step, is_empty, binary_features}
 use Rattle.vlog_meaning.proofs.Firsts.{least_none}
-use Rattle.vlog_meaning.proofs.Refusals.{least_empty, pair_first}
 use Rattle.vlog_meaning.proofs.Settled.{settled}
-use Rattle.expr_plans.specs.Made.{Plan, plan, plans, plan_step, all_unsupported}
+use Rattle.expr_plans.proofs.Fusion.{fused}
 
 pub plan_number : (names : Names) (n : Number) → plan names (v.Number n) ≡ plan_step names (e.Number n)
 plan_number names n = ap (plan names) (sym (v.rolls-Number n)) ∙ fold-roll-Expr Plan (plan_step names) (e.Number n)
@@ -60,67 +50,12 @@ pub plan_system_function_call : (names : Names) (n : Identifier) (ps : List Expr
 plan_system_function_call names n ps = ap (plan names) (sym (v.rolls-SystemFunctionCall n ps)) ∙ fold-roll-Expr Plan (plan_step names) (e.SystemFunctionCall n ps)
 
 -- What is planned says what the expression says, and begins where it begins.
-pub record Says (names : Names) (x : Expr) : Type 0 where
-  pub sense : (plan names x).sense ≡ sense names x
-  pub first : (plan names x).first ≡ first_token x
-
--- an expression with the proof for it
-abbrev Proved : Names → Type 0
-Proved names = (x : Expr) × Says names x
-
-all_say : (names : Names) (ws : List (Proved names)) → map (λ (p : Plan). p.sense) (map (plan names) (map (λ (w : Proved names). w.0) ws)) ≡ map (sense names) (map (λ (w : Proved names). w.0) ws)
-all_say names [] = refl
-all_say names (w ∷ more) = rw (w.1.sense, all_say names more) refl
-
-all_begin : (names : Names) (ws : List (Proved names)) → map (λ (p : Plan). p.first) (map (plan names) (map (λ (w : Proved names). w.0) ws)) ≡ map first_token (map (λ (w : Proved names). w.0) ws)
-all_begin names [] = refl
-all_begin names (w ∷ more) = rw (w.1.first, all_begin names more) refl
-
-senses_same : (names : Names) (y : Expr-F (Proved names)) → map-Expr Plan Sense (λ p. p.sense) (map-Expr Expr Plan (plan names) (map-Expr (Proved names) Expr (λ (w : Proved names). w.0) y)) ≡ map-Expr Expr Sense (sense names) (map-Expr (Proved names) Expr (λ (w : Proved names). w.0) y)
-senses_same names (e.Number n) = refl
-senses_same names (e.Name n) = refl
-senses_same names (e.BitSelect n s i) = rw (i.1.sense) refl
-senses_same names (e.PartSelect n s m l) = rw (m.1.sense, l.1.sense) refl
-senses_same names (e.IndexedPartSelect n s b w) = rw (b.1.sense, w.1.sense) refl
-senses_same names (e.Parenthesized s i) = rw (i.1.sense) refl
-senses_same names (e.Unary s op i) = rw (i.1.sense) refl
-senses_same names (e.Binary s op i j) = rw (i.1.sense, j.1.sense) refl
-senses_same names (e.Conditional s x i j) = rw (x.1.sense, i.1.sense, j.1.sense) refl
-senses_same names (e.Concatenation s ps) = rw (all_say names ps) refl
-senses_same names (e.MultipleConcatenation s k ps) = rw (k.1.sense, all_say names ps) refl
-senses_same names (e.SystemFunctionCall n ps) = rw (all_say names ps) refl
-
-firsts_same : (names : Names) (y : Expr-F (Proved names)) → map-Expr Plan Span (λ p. p.first) (map-Expr Expr Plan (plan names) (map-Expr (Proved names) Expr (λ (w : Proved names). w.0) y)) ≡ map-Expr Expr Span first_token (map-Expr (Proved names) Expr (λ (w : Proved names). w.0) y)
-firsts_same names (e.Number n) = refl
-firsts_same names (e.Name n) = refl
-firsts_same names (e.BitSelect n s i) = rw (i.1.first) refl
-firsts_same names (e.PartSelect n s m l) = rw (m.1.first, l.1.first) refl
-firsts_same names (e.IndexedPartSelect n s b w) = rw (b.1.first, w.1.first) refl
-firsts_same names (e.Parenthesized s i) = rw (i.1.first) refl
-firsts_same names (e.Unary s op i) = rw (i.1.first) refl
-firsts_same names (e.Binary s op i j) = rw (i.1.first, j.1.first) refl
-firsts_same names (e.Conditional s x i j) = rw (x.1.first, i.1.first, j.1.first) refl
-firsts_same names (e.Concatenation s ps) = rw (all_begin names ps) refl
-firsts_same names (e.MultipleConcatenation s k ps) = rw (k.1.first, all_begin names ps) refl
-firsts_same names (e.SystemFunctionCall n ps) = rw (all_begin names ps) refl
-
-from_step : (names : Names) (x : Expr-F Expr) → map-Expr Plan Sense (λ p. p.sense) (map-Expr Expr Plan (plan names) x) ≡ map-Expr Expr Sense (sense names) x → map-Expr Plan Span (λ p. p.first) (map-Expr Expr Plan (plan names) x) ≡ map-Expr Expr Span first_token x → Says names (roll-Expr x)
-from_step names x s f = record {
-  sense = ap (λ (p : Plan). p.sense) (fold-roll-Expr Plan (plan_step names) x) ∙ ap (step names) s ∙ sym (fold-roll-Expr Sense (step names) x);
-  first = ap (λ (p : Plan). p.first) (fold-roll-Expr Plan (plan_step names) x) ∙ ap first_step f ∙ sym (fold-roll-Expr Span first_step x);
-}
-
-abbrev Same : Names → Expr-F Expr → Type 0
-Same names x = (map-Expr Plan Sense (λ p. p.sense) (map-Expr Expr Plan (plan names) x) ≡ map-Expr Expr Sense (sense names) x) × (map-Expr Plan Span (λ p. p.first) (map-Expr Expr Plan (plan names) x) ≡ map-Expr Expr Span first_token x)
-
-pub says : (names : Names) (x : Expr) → Says names x
-says names = ind-Expr (Says names) (λ x y is. let same : Same names x = subst (Same names) is (senses_same names y, firsts_same names y) in from_step names x same.0 same.1)
 
 pub plan_sense : (names : Names) (x : Expr) → (plan names x).sense ≡ sense names x
-plan_sense names x = (says names x).sense
+plan_sense names = fused (λ (p : Plan). p.sense) (plan_step names) (step names) (λ y. refl)
 
 pub plan_first : (names : Names) (x : Expr) → (plan names x).first ≡ first_token x
-plan_first names x = (says names x).first
+plan_first names = fused (λ (p : Plan). p.first) (plan_step names) first_step (λ y. refl)
 
 -- Tests.
 

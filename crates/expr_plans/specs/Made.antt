@@ -143,9 +143,11 @@ plan_step names x =
 abbrev pub plan : Names → Expr → Plan
 plan names = fold-Expr Plan (plan_step names)
 
-abbrev pub plans : Names → List Expr → List Plan
-plans names = map (plan names)
-
 -- the cells that an expression makes
 abbrev pub made : Names → Expr → Shape → List Made
 made names x c = (plan names x).cells c
+
+-- For proofs alone.
+
+abbrev pub plans : Names → List Expr → List Plan
+plans names = map (plan names)

@@ -11,4 +11,4 @@ mod unsupported;
 
 pub use constant::{bound_of, count_of, index_width, is_constant};
 pub use kinds::{binary_kind, unary_kind};
-pub use unsupported::unsupported_in;
+pub use unsupported::{division_unsupported, index_unsupported, unsupported_in};

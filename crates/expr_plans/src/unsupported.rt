@@ -13,7 +13,12 @@ use vlog_syntax::{BinaryOperator, Expr, Identifier};
 
 /// A variable index of a vector whose lowest bit is not number 0.
 #[tactic(auto, unfolding(vlog_meaning::specs::Answers::earlier, vlog_meaning::specs::Answers::least))]
-fn index_unsupported(scope: &Scope, name: &Identifier, span: Span, index: &Expr) -> Option<Fault>
+pub fn index_unsupported(
+    scope: &Scope,
+    name: &Identifier,
+    span: Span,
+    index: &Expr,
+) -> Option<Fault>
     ensures { result ≡ least (index_features span (names_of scope.now name.now.name) (sense (names_of scope.now) index.now)) }
 {
     if scope.low_of(name.name.as_str()) == 0 || is_constant(index, scope) {
@@ -82,7 +87,7 @@ fn is_division(op: BinaryOperator) -> bool
 
 /// A division or power of what is no constant.
 #[tactic(auto, using(crate::proofs::Plans::both_empty), unfolding(vlog_meaning::specs::Answers::earlier, vlog_meaning::specs::Answers::least))]
-fn division_unsupported(
+pub fn division_unsupported(
     scope: &Scope,
     span: Span,
     op: BinaryOperator,

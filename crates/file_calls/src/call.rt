@@ -11,6 +11,7 @@ ghost use Rattle.mcy_top.specs.Baselines.{ToldBaselines};
 ghost use Rattle.mcy_top.specs.Commands.{AsksBaseline, AsksDemo, AsksNoDemo};
 ghost use Rattle.mcy_top.specs.Complete.{Completes, IsReady, NoneRose};
 ghost use Rattle.mcy_top.specs.Life.{Answered, HasCause, IsQuiet, Life, Unloaded};
+ghost use Rattle.mcy_top.specs.Passes.{LeavesTruePasses};
 ghost use Rattle.mcy_top.specs.Shown.{Shown};
 
 use campaign_outcomes::Outcome;
@@ -51,6 +52,7 @@ pub fn call_on_file<S: Start, F: SourceFiles, W: Watcher, O: Sink>(
         × ((left : Option Pages) → ⟦<OpeningKeeper<FileStore<FileFrom<S>>, Database<S>> as Keeper>⟧.leaves result.1 left ↔ Found (image_at S.Start) left) }
     ensures baseline { AsksBaseline (map string_bytes words.now) → ToldBaselines (F.held files.old) (O.written out.old) (O.written out.new) result.0 × (result.2 ≡ watcher)
         × ((left : Option Pages) → ⟦<OpeningKeeper<FileStore<FileFrom<S>>, Database<S>> as Keeper>⟧.leaves result.1 left ↔ Found (image_at S.Start) left) }
+    ensures pass { ⟦<OpeningKeeper<FileStore<FileFrom<S>>, Database<S>> as Keeper>⟧.tells result.1 → LeavesTruePasses (Found (image_at S.Start)) → LeavesTruePasses (⟦<OpeningKeeper<FileStore<FileFrom<S>>, Database<S>> as Keeper>⟧.leaves result.1) }
     ensures complete { ⟦<OpeningKeeper<FileStore<FileFrom<S>>, Database<S>> as Keeper>⟧.tells result.1 → (command : Asked) → IsReady (map string_bytes words.now) (F.held files.old) (λ _. ⊥) (Found (image_at S.Start)) command
         → NoneRose (F.faults files.old) (F.faults files.new) 0 (⟦<OpeningKeeper<FileStore<FileFrom<S>>, Database<S>> as Keeper>⟧.faults result.1) (O.faults out.old) (O.faults out.new) → Completes command result.0 }
 {

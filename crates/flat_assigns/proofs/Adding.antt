@@ -1,24 +1,12 @@
 -- A connection is added by the cells of its value and the joints of its port.
-use Rattle.std.proofs.Common.{◌≡◌, ℕ, List, [], length, Option, refl, sym, ap, ◌∙◌, subst}
-use Rattle.std.proofs.lemmas.List.{append-nil}
-use Rattle.netlist_core.specs.declared.bit.Bit.{Bit}
+use Rattle.flat_assigns.proofs.Common.{◌≡◌, ℕ, List, [], length, Option, refl, sym, ap, ◌∙◌, subst, append-nil, Bit, Expr, Shape, Names, Store, Building, AllBelow, Grows, signal, Made, Place, Assign}
+use Rattle.flat_assigns.proofs.Common.{HasOwnNets, AddsItem, AreJoints, StandsBelow, places_from, whole, own_stays, IsReady, IsBuilt, IsJoinedTo, right_cells, right_shape, right_value}
 use Rattle.netlist_core.specs.declared.cell.Cell.{Cell}
 use Rattle.netlist_core.specs.Numbers.{number}
 use Rattle.netlist_core.specs.Runs.{Nets, values}
-use Rattle.vlog_syntax.specs.declared.expr.Expr.{Expr}
-use Rattle.vlog_meaning.specs.declared.shapes.Shape.{Shape}
-use Rattle.vlog_meaning.specs.Scopes.{Names, Store}
-use Rattle.net_builder.specs.Building.{Building, AllBelow, Grows, signal}
 use Rattle.elab_expr.specs.Evaluates.{Builds, Evaluates}
-use Rattle.expr_plans.specs.Made.{Made}
-use Rattle.flat_runs.specs.Meanings.{Place, Assign}
-use Rattle.flat_runs.specs.Adding.{HasOwnNets, AddsItem}
-use Rattle.flat_runs.specs.Parts.{AreJoints, StandsBelow, places_from, whole}
 use Rattle.flat_runs.proofs.Growing.{cells_extend}
 use Rattle.flat_runs.proofs.Joining.{assigns_add, joints_stand}
-use Rattle.flat_runs.proofs.Signals.{own_stays}
-use Rattle.flat_assigns.specs.Built.{IsReady, IsBuilt, IsJoinedTo}
-use Rattle.flat_assigns.specs.Values.{right_cells, right_shape, right_value}
 use Rattle.flat_assigns.proofs.Joins.{own_joined}
 
 -- where the cells were added

@@ -1,14 +1,8 @@
 -- Bits of parts, and the targets that they are.
-use Rattle.std.proofs.Common.{◌≡◌, ◌⊎◌, inl, inr, neg_ℤ, ℕ, zero, suc, ◌+◌, ◌-◌, ◌^◌, ◌<◌, ◌≤◌, Bool, true, false, ℤ, pos, negsuc, ◌+ℤ◌, List, [], ◌∷◌, ◌++◌, Option, Some, None, refl, sym, ap, ◌∙◌, arith}
-use Rattle.std.specs.Prelude.{if◌then◌else◌}
+use Rattle.flat_assigns.proofs.Common.{◌≡◌, neg_ℤ, ℕ, zero, suc, ◌+◌, ◌-◌, ◌^◌, ◌<◌, ◌≤◌, Bool, true, false, ℤ, pos, negsuc, ◌+ℤ◌, List, [], ◌∷◌, ◌++◌, Option, Some, None, refl, sym, ap, ◌∙◌, arith}
+use Rattle.flat_assigns.proofs.Common.{if◌then◌else◌, Span, Vector, bit_at, bits_from, Kept, bound_integer, first_bits, bit_in, vector_in, Target, bit_targets}
 use Rattle.std.proofs.lemmas.Bool.Decides.{nat_tests}
 use Rattle.std.proofs.lemmas.Int.{ints}
-use Rattle.mcy_base.specs.declared.span.Span.{Span}
-use Rattle.vlog_effects.specs.LeftSides.{Vector, bit_at, bits_from}
-use Rattle.flat_assigns.specs.declared.slice.Slice.{Slice as Kept}
-use Rattle.vlog_meaning.specs.Integers.{bound_integer}
-use Rattle.flat_assigns.specs.Parts.{first_bits, bit_in, vector_in}
-use Rattle.flat_assigns.specs.Writers.{Target, bit_targets}
 
 from_start : (z : ℤ) → z +ℤ pos 0 ≡ z
 from_start z = omega (arith, ints)
@@ -71,16 +65,6 @@ bit_from s k e = signed_at s k false e
 
 pub bit_far : (s : Kept) (k : ℕ) → s.base.is_negative ≡ false → 2 ^ 128 ≤ s.base.magnitude + k → s.low < 2 ^ 32 → s.width < 2 ^ 8 → bit_in s k ≡ None
 bit_far s k e far low wide = bit_from s k e ∙ bit_above (vector_in s) (s.base.magnitude + k) (omega (arith, far, low, wide))
-
--- a bit that a vector has
-inside_of : (v : Vector) (n i : ℕ) → (v.low ≤ n) ⊎ (n < v.low) → (n - v.low < v.width) ⊎ (v.width ≤ n - v.low) → bit_at v (pos n) ≡ Some i → i < v.width
-inside_of v n i (inl low) (inl wide) e = let same : Some (n - v.low) ≡ Some i = sym (bit_there v n low wide) ∙ e in let at : n - v.low ≡ i = cc in omega arith
-inside_of v n i (inl low) (inr wide) e = absurd (let none : None ≡ Some i = sym (bit_above v n wide) ∙ e in cc)
-inside_of v n i (inr low) w e = absurd (let none : None ≡ Some i = sym (bit_below v n low) ∙ e in cc)
-
-pub bit_inside : (v : Vector) (z : ℤ) (i : ℕ) → bit_at v z ≡ Some i → i < v.width
-bit_inside v (pos n) i e = inside_of v n i (grind (arith, nat_tests)) (grind (arith, nat_tests)) e
-bit_inside v (negsuc n) i e = absurd cc
 
 -- targets of bits one after the other
 pub targets_append : (span : Span) (k : ℕ) (xs ys : List (Option ℕ)) → bit_targets span k (xs ++ ys) ≡ bit_targets span k xs ++ bit_targets span k ys

@@ -1,25 +1,13 @@
 -- The first bit that has a writer, in bits one after the other.
-use Rattle.std.proofs.Common.{◌≡◌, ◌⊎◌, ℕ, ◌+◌, ◌<◌, length, take, get_or, Bool, true, false, List, [], ◌∷◌, ◌++◌, Option, Some, None, refl, sym, ap, ◌∙◌, subst, inl, inr, append_assoc}
-use Rattle.std.specs.Prelude.{slice_get, slice_index_or}
-use Rattle.std.specs.List.{Contains}
-use Rattle.std.proofs.lemmas.List.{append-nil}
+use Rattle.flat_assigns.proofs.Common.{◌≡◌, ◌⊎◌, ℕ, ◌+◌, ◌<◌, length, take, get_or, Bool, true, false, List, [], ◌∷◌, ◌++◌, Option, Some, None, refl, sym, ap, ◌∙◌, subst, inl, inr, append_assoc}
+use Rattle.flat_assigns.proofs.Common.{slice_get, slice_index_or, Contains, append-nil, Span, Bit, Net, Building, signal, Place, HasOwnNets, IsBit, are_apart, net_of, Kept, IsWriter, bit_in}
+use Rattle.flat_assigns.proofs.Common.{first_bits, slices_of, Target, bit_targets, targets, IsFirstWritten, NetSet, has, HasSeen, IsMet, IsTaken, IsPassed, places_of}
 use Rattle.std.proofs.lemmas.List.Elements.{Contains-append_left, Contains-append_right, Contains-append_cases}
-use Rattle.mcy_base.specs.declared.span.Span.{Span}
-use Rattle.netlist_core.specs.declared.bit.Bit.{Bit}
-use Rattle.netlist_core.specs.declared.bit.Bit.TheVariants.{Net}
-use Rattle.net_builder.specs.Building.{Building, signal}
-use Rattle.flat_runs.specs.Meanings.{Place}
 use Rattle.net_builder.specs.Written.{IsJoined, IsStored}
-use Rattle.flat_runs.specs.Adding.{HasOwnNets, IsBit}
-use Rattle.flat_runs.proofs.Lists.{contains_first, contains_cases, contains_none}
-use Rattle.flat_runs.proofs.Signals.{are_apart, net_of}
 use Rattle.std.proofs.lemmas.Option.{get_or_from_slice_get}
-use Rattle.flat_assigns.specs.declared.slice.Slice.{Slice as Kept}
-use Rattle.flat_assigns.specs.Parts.{IsWriter, bit_in, first_bits, slices_of}
-use Rattle.flat_assigns.specs.Writers.{Target, bit_targets, targets, IsFirstWritten}
-use Rattle.flat_assigns.specs.Seen.{NetSet, has, HasSeen, IsMet, IsTaken, IsPassed, places_of}
 use Rattle.flat_assigns.proofs.Bits.{first_more, first_split, targets_append}
 use Rattle.flat_assigns.proofs.Scans.{targets_more, targets_split}
+use Rattle.net_builder.proofs.Writing.{has_first, has_cases, has_none}
 
 -- where none has a writer, the first of all is the first of the others
 pub first_then : (b : Building) (inputs : List Bool) (before : List Place) (ts us : List Target) (o : Option Target) → IsFirstWritten b inputs before ts None → IsFirstWritten b inputs (before ++ places_of ts) us o → IsFirstWritten b inputs before (ts ++ us) o
@@ -36,7 +24,7 @@ first_stays b inputs before (x ∷ ts) us t (inr w) = inr (w.0, first_stays b in
 
 -- Parts: bits one after the other.
 
-places_append : (ts us : List Target) → places_of (ts ++ us) ≡ places_of ts ++ places_of us
+pub places_append : (ts us : List Target) → places_of (ts ++ us) ≡ places_of ts ++ places_of us
 places_append [] us = refl
 places_append (t ∷ ts) us = ap (λ (l : List Place). t.place ∷ l) (places_append ts us)
 
@@ -54,13 +42,6 @@ passed_then b inputs before span k xs ys old new false h r = (
 
 pub passed_stays : (b : Building) (inputs : List Bool) (before : List Place) (span : Span) (k : ℕ) (xs ys : List (Option ℕ)) (seen : NetSet) → IsPassed b inputs before span k xs seen true → IsPassed b inputs before span k (xs ++ ys) seen true
 passed_stays b inputs before span k xs ys seen h = (h.0, h.1, h.2, subst (λ (l : List Target). IsFirstWritten b inputs before l (Some h.0)) (sym (targets_append span k xs ys)) (first_stays b inputs before _ _ h.0 h.3))
-
--- no bits
-pub passed_none : (b : Building) (inputs : List Bool) (before : List Place) (span : Span) (k : ℕ) (seen : NetSet) → HasSeen b seen before → IsPassed b inputs before span k [] seen false
-passed_none b inputs before span k seen h = (refl, subst (HasSeen b seen) (sym (append-nil before)) h)
-
-pub passed_outside : (b : Building) (inputs : List Bool) (before : List Place) (span : Span) (k : ℕ) (seen : NetSet) → HasSeen b seen before → IsPassed b inputs before span k (None ∷ []) seen false
-passed_outside b inputs before span k seen h = (refl, subst (HasSeen b seen) (sym (append-nil before)) h)
 
 -- one bit
 pub passed_one : (b : Building) (inputs : List Bool) (before : List Place) (span : Span) (k i : ℕ) (seen : NetSet) (taken : Bool) → IsTaken b inputs before (record { signal = k; bit = i }) seen taken → IsPassed b inputs before span k (Some i ∷ []) seen taken
@@ -95,14 +76,14 @@ met_takes b inputs before p net old new false own at free seen (unwritten, unsee
   ],
   λ n. (
     λ h. elim ((adds n).0 h) [
-      | inl e ↦ (p, Contains-append_right before (p ∷ []) p (contains_first [] p), subst (IsBit b p.signal p.bit) (sym e) at)
+      | inl e ↦ (p, Contains-append_right before (p ∷ []) p (has_first [] p), subst (IsBit b p.signal p.bit) (sym e) at)
       | inr o ↦ let q = (seen n).0 o in (q.0, Contains-append_left before (p ∷ []) q.0 q.1, q.2)
     ],
     λ q. elim (Contains-append_cases before (p ∷ []) q.0 q.1) [
       | inl c ↦ (adds n).1 (inr ((seen n).1 (q.0, c, q.2)))
-      | inr c ↦ elim (contains_cases [] p q.0 c) [
+      | inr c ↦ elim (has_cases [] p q.0 c) [
         | inl same ↦ (adds n).1 (inl (same_net (signal b p.signal) p.bit n net (subst (λ (x : Place). IsBit b x.signal x.bit n) (sym same) q.2) at))
-        | inr none ↦ absurd (contains_none q.0 none)
+        | inr none ↦ absurd (has_none q.0 none)
       ]
     ],
   ),

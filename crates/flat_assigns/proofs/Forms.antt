@@ -1,21 +1,13 @@
 -- The parts of a left side are those of the expression of the same form.
-use Rattle.std.proofs.Common.{◌≡◌, List, [], ◌∷◌, map, refl, sym, ap, ◌∙◌, subst}
-use Rattle.mcy_base.specs.declared.span.Span.{Span}
-use Rattle.vlog_syntax.specs.declared.expr.Expr.{Expr}
+use Rattle.flat_assigns.proofs.Common.{◌≡◌, List, [], ◌∷◌, map, refl, sym, ap, ◌∙◌, subst, Span, Expr, Identifier, LeftSide, LeftSide-F, roll-LeftSide, fold-roll-LeftSide, ind-LeftSide, map-LeftSide}
+use Rattle.flat_assigns.proofs.Common.{Part, Whole, Range, Indexed, concatenated, parts_of, parts_step, same_form, form_step, Form, FormsHaveParts, form, form_parts, formed}
 use Rattle.vlog_syntax.specs.declared.expr.Expr.TheOpen as e
 use Rattle.vlog_syntax.specs.declared.expr.Expr.TheOpen.{Expr-F}
 use Rattle.vlog_syntax.specs.declared.expr.Expr.TheVariants as v
 use Rattle.vlog_syntax.specs.declared.expr.Expr.TheViews.{roll-Expr}
 use Rattle.vlog_syntax.specs.declared.expr.Expr.TheFolds.{fold-roll-Expr, ind-Expr, map-Expr}
-use Rattle.vlog_syntax.specs.declared.identifier.Identifier.{Identifier}
-use Rattle.vlog_syntax.specs.declared.left_side.LeftSide.{LeftSide}
 use Rattle.vlog_syntax.specs.declared.left_side.LeftSide.TheOpen as l
-use Rattle.vlog_syntax.specs.declared.left_side.LeftSide.TheOpen.{LeftSide-F}
-use Rattle.vlog_syntax.specs.declared.left_side.LeftSide.TheViews.{roll-LeftSide}
-use Rattle.vlog_syntax.specs.declared.left_side.LeftSide.TheFolds.{fold-roll-LeftSide, ind-LeftSide, map-LeftSide}
-use Rattle.vlog_effects.specs.LeftSides.{Part, Whole, Bit, Range, Indexed, concatenated, parts_of, parts_step}
-use Rattle.elab_proc.specs.Refusals.{same_form, form_step}
-use Rattle.flat_assigns.specs.Forms.{Form, FormsHaveParts, form, form_parts, formed}
+use Rattle.vlog_effects.specs.LeftSides.{Bit}
 
 -- The expression of a form is the expression.
 
@@ -106,7 +98,3 @@ rolled_parts x h = ap form_parts (fold-roll-LeftSide Expr form_step x) ∙ h ∙
 
 pub form_is : FormsHaveParts
 form_is = ind-LeftSide HasParts (λ x y is. rolled_parts x (subst HasSameParts is (layer_parts y)))
-
--- left sides of the same form have the same parts
-pub same_parts : (a b : LeftSide) → same_form a ≡ same_form b → parts_of a ≡ parts_of b
-same_parts a b is = sym (form_is a) ∙ ap form_parts is ∙ form_is b

@@ -1,17 +1,7 @@
 -- Joints of a port, one bit after the other.
-use Rattle.std.proofs.Common.{◌≡◌, ℕ, zero, suc, ◌+◌, ◌<◌, List, [], ◌∷◌, ◌++◌, length, drop, get_or, Bool, Option, Some, None, refl, sym, ap, ◌∙◌, subst, append_assoc, arith, drop-cons}
-use Rattle.std.specs.Prelude.{slice_get}
-use Rattle.std.proofs.lemmas.List.{append-nil}
+use Rattle.flat_assigns.proofs.Common.{◌≡◌, ℕ, zero, suc, ◌+◌, ◌<◌, List, [], ◌∷◌, ◌++◌, length, drop, get_or, Bool, Option, Some, None, refl, sym, ap, ◌∙◌, subst, append_assoc, arith, drop-cons}
+use Rattle.flat_assigns.proofs.Common.{slice_get, append-nil, Bit, Fixed, Net, Joint, Building, with_joint, Place, HasOwnNets, IsBit, with_joints, AreJoints, places_from, own_stays, IsJoinedTo}
 use Rattle.std.proofs.lemmas.Option.{get_or_from_slice_get}
-use Rattle.netlist_core.specs.declared.bit.Bit.{Bit}
-use Rattle.netlist_core.specs.declared.bit.Bit.TheVariants.{Fixed, Net}
-use Rattle.net_builder.specs.declared.builder.Joint.{Joint}
-use Rattle.net_builder.specs.Building.{Building, with_joint}
-use Rattle.flat_runs.specs.Meanings.{Place}
-use Rattle.flat_runs.specs.Adding.{HasOwnNets, IsBit}
-use Rattle.flat_runs.specs.Parts.{with_joints, AreJoints, places_from}
-use Rattle.flat_runs.proofs.Signals.{own_stays}
-use Rattle.flat_assigns.specs.Built.{IsJoinedTo}
 
 joints_then : (b : Building) (left more : List (Option Place)) (bits : List Bit) (js ks : List Joint) → AreJoints b left bits js → AreJoints b more (drop (length left) bits) ks → AreJoints b (left ++ more) bits (js ++ ks)
 joints_then b [] more bits [] ks h r = r
@@ -33,10 +23,6 @@ joined_then a b c left more bits h r =
 
 with_none : (b : Building) → b ≡ with_joints b []
 with_none b = ap (λ (l : List Joint). let x : Building = record b { joints = l } in x) (sym (append-nil b.joints))
-
--- nothing is joined
-pub joined_none : (b : Building) (bits : List Bit) → IsJoinedTo b b [] bits
-joined_none b bits = ([], tt, with_none b)
 
 -- a bit outside the range
 pub joined_outside : (b : Building) (bit : Bit) (more : List Bit) → IsJoinedTo b b (None ∷ []) (bit ∷ more)

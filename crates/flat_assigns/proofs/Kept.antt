@@ -1,29 +1,13 @@
 -- A part that was read.
-use Rattle.std.proofs.Common.{◌≡◌, ℕ, ℤ, List, [], ◌∷◌, ◌++◌, Option, Some, None, refl, sym, ap, ◌∙◌, subst}
-use Rattle.std.specs.List.{flat_map}
-use Rattle.std.proofs.lemmas.List.{append-nil, map-append}
-use Rattle.mcy_base.specs.declared.span.Span.{Span}
-use Rattle.vlog_syntax.specs.declared.expr.Expr.{Expr}
-use Rattle.vlog_syntax.specs.declared.identifier.Identifier.{Identifier}
-use Rattle.vlog_syntax.specs.declared.left_side.LeftSide.{LeftSide}
+use Rattle.flat_assigns.proofs.Common.{◌≡◌, ℕ, ℤ, List, [], ◌∷◌, ◌++◌, Option, Some, None, refl, sym, ap, ◌∙◌, subst, flat_map, append-nil, map-append, Span, Expr, Identifier, LeftSide, Fault, least}
+use Rattle.flat_assigns.proofs.Common.{earlier, bound_integer, Names, nothing, decl_shape, Sense, sense, constant_faults, name_faults, IsWhole, left_nil, right_nil, least_none, pair_first}
+use Rattle.flat_assigns.proofs.Common.{whole_index, whole_indexed, Part, Select, Whole, Range, Indexed, Vector, bits_from, part_vector, parts_of, select_base, select_width, vector_of, Building}
+use Rattle.flat_assigns.proofs.Common.{HasSignals, index_faults, same_form, Kept, AllInside, AllWithin, HasIndex, IsPart, IsPartOf, IsScanned, kept_slices, listed, slice_of, slices_of, vector_in}
+use Rattle.flat_assigns.proofs.Common.{Slice, constant_target, form_of, own_slices, part_faults, part_form, part_slices, target_faults, vector_slices}
 use Rattle.vlog_meaning.specs.declared.scope.Decl.{Decl}
 use Rattle.vlog_meaning.specs.declared.scope.Decl.TheVariants.{Signal, Constant}
-use Rattle.vlog_meaning.specs.declared.fault.Fault.{Fault}
-use Rattle.vlog_meaning.specs.Answers.{least, earlier}
-use Rattle.vlog_meaning.specs.Integers.{bound_integer}
-use Rattle.vlog_meaning.specs.Scopes.{Names, nothing, decl_shape}
-use Rattle.vlog_meaning.specs.Senses.{Sense, sense, constant_faults, name_faults, IsWhole}
-use Rattle.vlog_meaning.proofs.Blanks.{left_nil, right_nil}
-use Rattle.vlog_meaning.proofs.Firsts.{least_none}
-use Rattle.vlog_meaning.proofs.Refusals.{pair_first}
-use Rattle.vlog_meaning.proofs.Whole.{whole_index, whole_indexed}
 use Rattle.vlog_meaning.proofs.Steps.{sense_name, sense_bit_select, sense_part_select, sense_indexed_part_select}
-use Rattle.vlog_effects.specs.LeftSides.{Part, Select, Whole, Bit, Range, Indexed, Vector, bits_from, part_vector, parts_of, select_base, select_width, vector_of}
-use Rattle.net_builder.specs.Building.{Building, HasSignals}
-use Rattle.elab_proc.specs.Refusals.{same_form}
-use Rattle.flat_assigns.specs.declared.slice.Slice.{Slice as Kept}
-use Rattle.flat_assigns.specs.Parts.{AllInside, AllWithin, HasIndex, IsPart, IsPartOf, IsScanned, kept_slices, listed, slice_of, slices_of, vector_in}
-use Rattle.flat_assigns.specs.Sides.{Slice, constant_target, form_of, index_faults, own_slices, part_faults, part_form, part_slices, target_faults, vector_slices}
+use Rattle.vlog_effects.specs.LeftSides.{Bit}
 use Rattle.flat_assigns.proofs.Scans.{inside_push}
 
 -- what is kept of a vector

@@ -1,21 +1,8 @@
 -- What assignments and connections add is what they lay.
-use Rattle.std.proofs.Common.{◌≡◌, ℕ, List, [], ◌∷◌, ◌++◌, length, Option, None, Some, refl, sym, ap, ◌∙◌, subst}
-use Rattle.netlist_core.specs.declared.bit.Bit.{Bit}
-use Rattle.vlog_syntax.specs.declared.expr.Expr.{Expr}
-use Rattle.vlog_meaning.specs.declared.shapes.Shape.{Shape}
-use Rattle.vlog_meaning.specs.Scopes.{Names}
-use Rattle.vlog_effects.specs.Expressions.{width_of}
-use Rattle.vlog_effects.specs.LeftSides.{parts_of}
-use Rattle.net_builder.specs.declared.builder.Joint.{Joint}
-use Rattle.net_builder.specs.Building.{Building, signal}
+use Rattle.flat_assigns.proofs.Common.{◌≡◌, ℕ, List, [], ◌∷◌, ◌++◌, length, Option, None, Some, refl, sym, ap, ◌∙◌, subst, Bit, Expr, Shape, Names, width_of, parts_of, Joint, Building, signal, Place}
+use Rattle.flat_assigns.proofs.Common.{AreJoints, places_from, whole, with_joints, IsJoinedTo, form_parts, left_width, right_shape}
 use Rattle.elab_expr.specs.Laid.{lay, number_bits, showing}
-use Rattle.flat_runs.specs.Meanings.{Place}
-use Rattle.flat_runs.specs.Parts.{AreJoints, places_from, whole, with_joints}
-use Rattle.flat_assigns.specs.Built.{IsJoinedTo}
 use Rattle.flat_assigns.specs.Laid.{OutputsAreLaid, joined, lay_input, lay_joint, lay_joints, lay_open, lay_parts, lay_value}
-use Rattle.flat_assigns.specs.Forms.{form_parts}
-use Rattle.flat_assigns.specs.Sides.{left_width}
-use Rattle.flat_assigns.specs.Values.{right_shape}
 use Rattle.flat_assigns.proofs.Forms.{form_is}
 
 joints_laid : (b : Building) (left : List (Option Place)) (bits : List Bit) (js : List Joint) → AreJoints b left bits js → js ≡ lay_joints b left bits

@@ -1,28 +1,13 @@
 -- Left sides that are one part, by their variants.
-use Rattle.std.proofs.Common.{◌≡◌, pos, List, [], ◌++◌, Option, Some, None, refl, sym, ap, ◌∙◌}
-use Rattle.vlog_syntax.specs.declared.expr.Expr.{Expr}
-use Rattle.vlog_syntax.specs.declared.identifier.Identifier.{Identifier}
-use Rattle.mcy_base.specs.declared.span.Span.{Span}
-use Rattle.vlog_syntax.specs.declared.left_side.LeftSide.{LeftSide}
+use Rattle.flat_assigns.proofs.Common.{◌≡◌, pos, List, [], ◌++◌, Option, Some, None, refl, sym, ap, ◌∙◌, Expr, Identifier, Span, LeftSide, fold-roll-LeftSide, Fault, Shape, least, earlier}
+use Rattle.flat_assigns.proofs.Common.{bound_integer, Names, nothing, sense, constant_faults, constant_integer, IsWhole, left_nil, whole_part, Part, Select, Whole, Range, Indexed, Vector, part_vector}
+use Rattle.flat_assigns.proofs.Common.{parts_of, select_base, select_width, vector_of, Building, HasSignals, form_step, same_form, Kept, AllWithin, HasIndex, IsIndexed, IsName, IsPart, IsPartOf}
+use Rattle.flat_assigns.proofs.Common.{IsRange, IsScanned, listed, constant_target, form_of, part_faults, part_form, target_faults}
 use Rattle.vlog_syntax.specs.declared.left_side.LeftSide.TheVariants as lv
 use Rattle.vlog_syntax.specs.declared.left_side.LeftSide.TheOpen as l
-use Rattle.vlog_syntax.specs.declared.left_side.LeftSide.TheFolds.{fold-roll-LeftSide}
 use Rattle.vlog_effects.proofs.Folds.{parts-bit, parts-indexed}
 use Rattle.vlog_meaning.specs.declared.bound.Bound.{Bound}
-use Rattle.vlog_meaning.specs.declared.fault.Fault.{Fault}
-use Rattle.vlog_meaning.specs.declared.shapes.Shape.{Shape}
-use Rattle.vlog_meaning.specs.Answers.{least, earlier}
-use Rattle.vlog_meaning.specs.Integers.{bound_integer}
-use Rattle.vlog_meaning.specs.Scopes.{Names, nothing}
-use Rattle.vlog_meaning.specs.Senses.{sense, constant_faults, constant_integer, IsWhole}
-use Rattle.vlog_meaning.proofs.Blanks.{left_nil}
-use Rattle.vlog_meaning.proofs.Whole.{whole_part}
-use Rattle.vlog_effects.specs.LeftSides.{Part, Select, Whole, Bit, Range, Indexed, Vector, part_vector, parts_of, select_base, select_width, vector_of}
-use Rattle.net_builder.specs.Building.{Building, HasSignals}
-use Rattle.elab_proc.specs.Refusals.{form_step, same_form}
-use Rattle.flat_assigns.specs.declared.slice.Slice.{Slice as Kept}
-use Rattle.flat_assigns.specs.Parts.{AllWithin, HasIndex, IsIndexed, IsName, IsPart, IsPartOf, IsRange, IsScanned, listed}
-use Rattle.flat_assigns.specs.Sides.{constant_target, form_of, part_faults, part_form, target_faults}
+use Rattle.vlog_effects.specs.LeftSides.{Bit}
 use Rattle.flat_assigns.proofs.Kept.{form_whole, index_target, index_whole, name_target, nothing_wrong, scanned_kept, scanned_refused, size_is}
 
 -- By variants.

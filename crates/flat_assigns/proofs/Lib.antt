@@ -1,3 +1,4 @@
+mod Common
 pub mod Joins
 pub mod Adding
 pub mod Shapes

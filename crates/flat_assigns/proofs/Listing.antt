@@ -1,11 +1,7 @@
 -- Bits that are listed, one after the other.
-use Rattle.std.proofs.Common.{◌≡◌, ℕ, ◌+◌, ◌<◌, List, [], ◌∷◌, ◌++◌, take, get_or, length, Option, Some, None, sym, ap, ◌∙◌, append_assoc}
-use Rattle.std.proofs.lemmas.List.{append-nil, map-append}
+use Rattle.flat_assigns.proofs.Common.{◌≡◌, ℕ, ◌+◌, ◌<◌, List, [], ◌∷◌, ◌++◌, take, get_or, length, Option, Some, None, sym, ap, ◌∙◌, append_assoc, append-nil, map-append, Kept, target_of, targets_of}
+use Rattle.flat_assigns.proofs.Common.{bit_in, first_bits, slices_of, Target, bit_targets, targets}
 use Rattle.flat_assigns.specs.declared.written.WrittenBit.{WrittenBit}
-use Rattle.flat_assigns.specs.declared.slice.Slice.{Slice as Kept}
-use Rattle.flat_assigns.specs.Bits.{target_of, targets_of}
-use Rattle.flat_assigns.specs.Parts.{bit_in, first_bits, slices_of}
-use Rattle.flat_assigns.specs.Writers.{Target, bit_targets, targets}
 use Rattle.flat_assigns.proofs.Bits.{first_more, targets_append}
 use Rattle.flat_assigns.proofs.Scans.{targets_more}
 

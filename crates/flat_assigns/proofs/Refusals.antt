@@ -1,28 +1,11 @@
 -- What is wrong in the sides of an assignment, and its first refusal.
-use Rattle.std.specs.List.{flat_map}
-use Rattle.std.proofs.Common.{◌≡◌, Bool, List, [], ◌++◌, length, Option, Some, None, refl, sym, ap, ◌∙◌, subst}
-use Rattle.vlog_syntax.specs.declared.expr.Expr.{Expr}
-use Rattle.vlog_syntax.specs.declared.left_side.LeftSide.{LeftSide}
-use Rattle.vlog_meaning.specs.declared.fault.Fault.{Fault}
-use Rattle.vlog_meaning.specs.Answers.{least, earlier}
-use Rattle.vlog_meaning.specs.Scopes.{Names}
-use Rattle.vlog_meaning.specs.Senses.{sense, or_else, IsWhole}
-use Rattle.vlog_meaning.proofs.Blanks.{left_nil, right_nil, these_nil, those_nil}
-use Rattle.vlog_meaning.proofs.Firsts.{least_none}
-use Rattle.vlog_meaning.proofs.Refusals.{kept, passed, pair_first}
-use Rattle.vlog_effects.specs.LeftSides.{parts_of}
-use Rattle.net_builder.specs.Building.{Building}
+use Rattle.flat_assigns.proofs.Common.{flat_map, ◌≡◌, Bool, List, [], ◌++◌, length, Option, Some, None, refl, sym, ap, ◌∙◌, Expr, LeftSide, Fault, least, earlier, Names, sense, or_else, IsWhole}
+use Rattle.flat_assigns.proofs.Common.{left_nil, right_nil, these_nil, those_nil, least_none, kept, passed, pair_first, parts_of, Building, IsWriter, width_of, Shape, same_form, wrong, divisions}
+use Rattle.flat_assigns.proofs.Common.{Slice, all_places, left_faults, left_width, slices, target_faults, right_refusals, right_shape, Target, IsFirstWritten, targets}
 use Rattle.flat_assigns.specs.declared.refusal.Refusal.{Refusal}
 use Rattle.flat_assigns.specs.declared.refusal.Writer.{Writer}
-use Rattle.flat_assigns.specs.Assignments.{IsRefusal, assignment_faults, first_refusal}
-use Rattle.flat_assigns.specs.Parts.{IsWriter}
-use Rattle.vlog_effects.specs.Expressions.{width_of}
-use Rattle.vlog_meaning.specs.declared.shapes.Shape.{Shape}
-use Rattle.elab_proc.specs.Refusals.{same_form, wrong, divisions}
-use Rattle.flat_assigns.specs.Sides.{Slice, all_places, left_faults, left_width, slices, target_faults}
+use Rattle.flat_assigns.specs.Assignments.{assignment_faults, first_refusal}
 use Rattle.flat_assigns.proofs.Widths.{places_wide}
-use Rattle.flat_assigns.specs.Values.{right_refusals, right_shape}
-use Rattle.flat_assigns.specs.Writers.{Target, IsFirstWritten, targets}
 
 -- Both sides.
 
@@ -61,12 +44,6 @@ none_wrong : (found : Option Fault) (target : Option Target) → None ≡ first_
 none_wrong None target e = refl
 none_wrong (Some f) None e = absurd cc
 none_wrong (Some f) (Some t) e = absurd cc
-
-pub refusal_is : (b : Building) (inputs : List Bool) (lefts : Names) (left : LeftSide) (rights : Names) (right : Expr) (xs : List Slice) (found : Option Fault) (second : Option Writer) (r : Option Refusal)
-    → xs ≡ slices lefts (parts_of left) → found ≡ least (assignment_faults lefts left rights right) → (target : Option Target) × IsFirstWritten b inputs [] (targets xs) target × IsWriter target second → ((target : Option Target) → IsWriter target second → r ≡ first_refusal found target)
-    → IsRefusal b inputs lefts left rights right r
-refusal_is b inputs lefts left rights right xs found second r same is (target, first, writer) told =
-    (target, subst (λ (l : List Slice). IsFirstWritten b inputs [] (targets l) target) same first, told target writer ∙ ap (λ (w : Option Fault). first_refusal w target) is)
 
 pub nothing_refused : (lefts : Names) (left : LeftSide) (rights : Names) (right : Expr) (found : Option Fault) (second : Option Writer) (r : Option Refusal) (b : Building) (inputs : List Bool) (xs : List Slice)
     → found ≡ least (assignment_faults lefts left rights right) → (target : Option Target) × IsFirstWritten b inputs [] (targets xs) target × IsWriter target second → ((target : Option Target) → IsWriter target second → r ≡ first_refusal found target) → r ≡ None

@@ -1,27 +1,11 @@
 -- Parts that are kept, one after the other.
-use Rattle.std.proofs.Common.{◌≡◌, ℕ, zero, suc, ◌+◌, ◌<◌, ◌≤◌, List, [], ◌∷◌, ◌++◌, map, length, take, drop, get_or, false, Option, None, refl, sym, ap, ◌∙◌, subst, arith, drop-cons}
-use Rattle.std.specs.Prelude.{slice_index_or}
-use Rattle.std.specs.List.{flat_map}
-use Rattle.std.proofs.lemmas.List.{append-nil, map-append, length-append, length-map, take_more}
-use Rattle.std.proofs.lemmas.Grind.{flat_map-append}
-use Rattle.netlist_core.specs.declared.bit.Bit.{Bit}
-use Rattle.vlog_syntax.specs.declared.left_side.LeftSide.{LeftSide}
-use Rattle.vlog_meaning.specs.declared.fault.Fault.{Fault}
-use Rattle.vlog_meaning.specs.Answers.{least, earlier}
-use Rattle.vlog_meaning.specs.Scopes.{Names}
-use Rattle.vlog_meaning.proofs.Refusals.{pair_first, least_empty}
-use Rattle.vlog_effects.specs.LeftSides.{Part, concatenated, parts_of}
-use Rattle.vlog_effects.proofs.Writing.{length-bits_from}
+use Rattle.flat_assigns.proofs.Common.{◌≡◌, ℕ, zero, suc, ◌+◌, ◌<◌, ◌≤◌, List, [], ◌∷◌, ◌++◌, map, length, take, drop, get_or, false, Option, None, refl, sym, ap, ◌∙◌, subst, arith, drop-cons}
+use Rattle.flat_assigns.proofs.Common.{slice_index_or, flat_map, append-nil, map-append, length-append, length-map, take_more, flat_map-append, Bit, LeftSide, Fault, least, earlier, Names, pair_first}
+use Rattle.flat_assigns.proofs.Common.{least_empty, Part, concatenated, parts_of, length-bits_from, Building, Kept, IsJoinedTo, IsInside, AllInside, IsScanned, bit_in, first_bits, slice_of, slices_of}
+use Rattle.flat_assigns.proofs.Common.{vector_in, Slice, all_places, own_slices, placed, slice_places, slices, target_faults, Target, bit_targets, targets, append_assoc}
 use Rattle.elab_proc.proofs.Lists.{parts_take}
-use Rattle.net_builder.specs.Building.{Building}
-use Rattle.flat_assigns.specs.declared.slice.Slice.{Slice as Kept}
-use Rattle.flat_assigns.specs.Built.{IsJoinedTo}
-use Rattle.flat_assigns.specs.Parts.{IsInside, AllInside, IsScanned, bit_in, first_bits, slice_of, slices_of, vector_in}
-use Rattle.flat_assigns.specs.Sides.{Slice, all_places, own_slices, placed, slice_places, slices, target_faults}
-use Rattle.flat_assigns.specs.Writers.{Target, bit_targets, targets}
 use Rattle.flat_assigns.proofs.Bits.{first_more}
 use Rattle.flat_assigns.proofs.Joins.{joined_then}
-use Rattle.std.proofs.Common.{append_assoc}
 
 -- Parts that are inside a builder.
 
@@ -34,13 +18,10 @@ inside_at b [] k d h less = absurd (omega arith)
 inside_at b (x ∷ xs) zero d h less = h.0
 inside_at b (x ∷ xs) (suc k) d h less = inside_at b xs k d h.1 (omega arith)
 
-part_same : (old new : Building) (s : Kept) → new.signals ≡ old.signals → IsInside old s → IsInside new s
+pub part_same : (old new : Building) (s : Kept) → new.signals ≡ old.signals → IsInside old s → IsInside new s
 part_same old new s same h =
     let P : List (List Bit) → Type 0 = λ l. (s.signal < length l) × (length (slice_index_or l s.signal []) ≡ s.width) in
     subst P (sym same) h
-
-pub inside_same : (old new : Building) (s : Kept) → new.signals ≡ old.signals → IsInside old s → IsInside new s
-inside_same old new s same h = part_same old new s same h
 
 pub all_same : (old new : Building) (xs : List Kept) → new.signals ≡ old.signals → AllInside old xs → AllInside new xs
 all_same old new [] same h = tt

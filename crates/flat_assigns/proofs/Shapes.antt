@@ -1,17 +1,7 @@
 -- The width and sign of a right side, and its refusals.
-use Rattle.std.proofs.Common.{◌≡◌, ℕ, List, [], ◌∷◌, ◌++◌, map, Option, Some, None, refl, sym, ap, ◌∙◌}
-use Rattle.vlog_syntax.specs.declared.expr.Expr.{Expr}
-use Rattle.vlog_meaning.specs.declared.fault.Fault.{Fault}
-use Rattle.vlog_meaning.specs.declared.shapes.Shape.{Shape}
-use Rattle.vlog_meaning.specs.Answers.{least}
-use Rattle.vlog_meaning.specs.Scopes.{Names}
-use Rattle.vlog_meaning.specs.Senses.{sense, fault, or_else, IsWhole}
+use Rattle.flat_assigns.proofs.Common.{◌≡◌, ℕ, List, [], ◌∷◌, ◌++◌, map, Option, Some, None, refl, sym, ap, ◌∙◌, Expr, Fault, Shape, least, Names, sense, fault, or_else, IsWhole, plan, left_nil}
+use Rattle.flat_assigns.proofs.Common.{these_nil, least_none, refusals, right_refusals, right_shape}
 use Rattle.vlog_meaning.specs.declared.fault.Cause.TheVariants.{DivideByZero}
-use Rattle.expr_plans.specs.Made.{plan}
-use Rattle.vlog_meaning.proofs.Blanks.{left_nil, these_nil}
-use Rattle.vlog_meaning.proofs.Firsts.{least_none}
-use Rattle.elab_expr.specs.Expressions.{refusals}
-use Rattle.flat_assigns.specs.Values.{right_refusals, right_shape}
 
 others_same : (faults more these those : List Fault) → (faults ≡ [] → these ≡ those) → or_else (faults ++ more) these ≡ or_else (faults ++ more) those
 others_same [] more these those h = ap (or_else more) (h refl)
@@ -24,7 +14,7 @@ same_refusals names right c width h = others_same (sense names right).faults (pl
 pub whole_from : (names : Names) (right : Expr) (c : Shape) → refusals names right c ≡ [] → IsWhole names right
 whole_from names right c e = left_nil _ _ (these_nil _ _ e)
 
-none_there : (o : Option Fault) → ((f : Fault) → o ≡ Some f → ⊥) → o ≡ None
+pub none_there : (o : Option Fault) → ((f : Fault) → o ≡ Some f → ⊥) → o ≡ None
 none_there None h = refl
 none_there (Some f) h = absurd (h f refl)
 

@@ -1,17 +1,7 @@
 -- One more bit of a part is joined.
-use Rattle.std.proofs.Common.{◌≡◌, ℕ, suc, ◌+◌, ◌<◌, List, [], ◌∷◌, map, length, drop, get_or, Option, Some, None, sym, ◌∙◌, subst, arith, drop-cons}
-use Rattle.std.proofs.lemmas.List.{drop-drop, length-map}
-use Rattle.netlist_core.specs.declared.bit.Bit.{Bit}
-use Rattle.net_builder.specs.Building.{Building, signal, with_joint}
-use Rattle.flat_runs.specs.Meanings.{Place}
-use Rattle.flat_runs.specs.Adding.{IsBit}
-use Rattle.vlog_effects.proofs.Writing.{length-bits_from}
-use Rattle.flat_assigns.specs.declared.slice.Slice.{Slice as Kept}
-use Rattle.flat_assigns.specs.Built.{IsJoinedTo}
-use Rattle.flat_assigns.specs.Parts.{IsInside, bit_in, first_bits, vector_in}
-use Rattle.flat_assigns.specs.Sides.{placed}
-use Rattle.flat_assigns.proofs.Bits.{bit_inside}
-use Rattle.flat_assigns.proofs.Joins.{joined_then, joined_one, joined_outside}
+use Rattle.flat_assigns.proofs.Common.{◌≡◌, ℕ, suc, ◌+◌, ◌<◌, List, [], ◌∷◌, map, length, drop, get_or, Option, None, sym, ◌∙◌, subst, drop-cons, drop-drop, length-map, Bit, Building, signal, Place}
+use Rattle.flat_assigns.proofs.Common.{length-bits_from, Kept, IsJoinedTo, bit_in, first_bits, vector_in, placed}
+use Rattle.flat_assigns.proofs.Joins.{joined_then, joined_outside}
 use Rattle.flat_assigns.proofs.Scans.{bits_placed}
 
 front_bits : (bits : List Bit) (at k : ℕ) (d : Bit) → at + k < length bits → drop k (drop at bits) ≡ get_or bits (at + k) d ∷ drop (suc (at + k)) bits
@@ -29,15 +19,7 @@ part_step a b c s k j at bits d same less h r =
     let next = subst P (sym (front_bits bits at k d less)) (subst J same r (drop (suc (at + k)) bits)) in
     subst R (sym (bits_placed s k)) (joined_then a b c (map (placed s.signal) (first_bits s k)) (placed s.signal (bit_in s k) ∷ []) (drop at bits) h (subst Q (sym (long_places s k)) next))
 
-pub bit_joined : (old new : Building) (s : Kept) (k : ℕ) (o : Option ℕ) (i n : ℕ) (to : Bit) → o ≡ bit_in s k → o ≡ Some i → IsBit old s.signal i n → new ≡ with_joint n to old → (more : List Bit) → IsJoinedTo old new (placed s.signal (bit_in s k) ∷ []) (to ∷ more)
-bit_joined old new s k o i n to e is at grown more =
-    let P : Option ℕ → Type 0 = λ x. IsJoinedTo old new (placed s.signal x ∷ []) (to ∷ more) in
-    subst P (sym is ∙ e) (joined_one old new (record { signal = s.signal; bit = i }) n to more at grown)
-
 pub bit_outside : (b : Building) (s : Kept) (k : ℕ) (o : Option ℕ) (to : Bit) → o ≡ bit_in s k → o ≡ None → (more : List Bit) → IsJoinedTo b b (placed s.signal (bit_in s k) ∷ []) (to ∷ more)
 bit_outside b s k o to e is more =
     let P : Option ℕ → Type 0 = λ x. IsJoinedTo b b (placed s.signal x ∷ []) (to ∷ more) in
     subst P (sym is ∙ e) (joined_outside b to more)
-
-pub bit_within : (b : Building) (s : Kept) (k : ℕ) (o : Option ℕ) (i : ℕ) → IsInside b s → o ≡ bit_in s k → o ≡ Some i → i < length (signal b s.signal)
-bit_within b s k o i h e is = let small : i < s.width = bit_inside (vector_in s) _ i (sym e ∙ is) in let long = h.1 in omega (arith, small, long)

@@ -1,23 +1,12 @@
 -- A left side has as many bits as the expression of the same form.
-use Rattle.std.proofs.Common.{◌≡◌, List, [], ◌∷◌, ◌++◌, map, length, Option, Some, None, refl, sym, ap, ◌∙◌, subst, arith, append_assoc}
-use Rattle.std.specs.List.{flat_map}
-use Rattle.std.proofs.lemmas.List.{append-nil, length-append, length-map}
-use Rattle.std.proofs.lemmas.Grind.{flat_map-append}
-use Rattle.vlog_syntax.specs.declared.expr.Expr.{Expr}
-use Rattle.vlog_syntax.specs.declared.left_side.LeftSide.{LeftSide}
+use Rattle.flat_assigns.proofs.Common.{◌≡◌, List, [], ◌∷◌, ◌++◌, map, length, Option, Some, None, refl, sym, ap, ◌∙◌, subst, arith, append_assoc, flat_map, append-nil, length-append, length-map}
+use Rattle.flat_assigns.proofs.Common.{flat_map-append, Expr, LeftSide, LeftSide-F, roll-LeftSide, fold-roll-LeftSide, ind-LeftSide, map-LeftSide, Names, nothing, Sense, sense, senses, total_width}
+use Rattle.flat_assigns.proofs.Common.{all_faults, left_nil, right_nil, these_nil, Part, Whole, Range, Indexed, Vector, concatenated, part_vector, parts_of, parts_step, places, select_base}
+use Rattle.flat_assigns.proofs.Common.{select_width, length-bits_from, same_form, form_step, Place, Slice, all_places, left_faults, left_places, left_width, own_slices, part_faults, part_form}
+use Rattle.flat_assigns.proofs.Common.{part_slices, placed, slice_places, slices, target_faults, vector_slices}
 use Rattle.vlog_syntax.specs.declared.left_side.LeftSide.TheOpen as l
-use Rattle.vlog_syntax.specs.declared.left_side.LeftSide.TheOpen.{LeftSide-F}
-use Rattle.vlog_syntax.specs.declared.left_side.LeftSide.TheViews.{roll-LeftSide}
-use Rattle.vlog_syntax.specs.declared.left_side.LeftSide.TheFolds.{fold-roll-LeftSide, ind-LeftSide, map-LeftSide}
-use Rattle.vlog_meaning.specs.Scopes.{Names, nothing}
-use Rattle.vlog_meaning.specs.Senses.{Sense, sense, senses, total_width, all_faults}
-use Rattle.vlog_meaning.proofs.Blanks.{left_nil, right_nil, these_nil}
 use Rattle.vlog_meaning.proofs.Steps.{sense_concatenation}
-use Rattle.vlog_effects.specs.LeftSides.{Part, Whole, Bit, Range, Indexed, Vector, concatenated, part_vector, parts_of, parts_step, places, select_base, select_width}
-use Rattle.vlog_effects.proofs.Writing.{length-bits_from}
-use Rattle.elab_proc.specs.Refusals.{same_form, form_step}
-use Rattle.flat_runs.specs.Meanings.{Place}
-use Rattle.flat_assigns.specs.Sides.{Slice, all_places, left_faults, left_places, left_width, own_slices, part_faults, part_form, part_slices, placed, slice_places, slices, target_faults, vector_slices}
+use Rattle.vlog_effects.specs.LeftSides.{Bit}
 use Rattle.flat_assigns.proofs.Kept.{names_vector, size_is}
 
 -- where nothing is wrong with an expression and with parts, they have as many bits

@@ -1,7 +1,7 @@
 -- Continuous assignments (IEEE 1364-2005, 6.1): what they mean, and why they are refused. Each side is read in the names of
 -- its own scope, since a connection of an instance has one side in the instance.
-use Rattle.std.specs.Prelude.{◌≡◌, ◌==◌, nat_lt, Bool, List, [], ◌++◌, Option, Some, None, if◌then◌else◌}
-use Rattle.mcy_base.specs.declared.span.Span.{Span}
+use Rattle.std.specs.Prelude.{◌≡◌, Bool, List, [], ◌++◌, Option, Some, None, if◌then◌else◌}
+use Rattle.mcy_base.specs.Places.{stands_before}
 use Rattle.vlog_syntax.specs.declared.expr.Expr.{Expr}
 use Rattle.vlog_syntax.specs.declared.left_side.LeftSide.{LeftSide}
 use Rattle.vlog_effects.specs.LeftSides.{parts_of}
@@ -26,16 +26,9 @@ assignment lefts left rights right = Assign (left_places lefts left) (right_valu
 abbrev pub assignment_faults : (lefts : Names) → LeftSide → (rights : Names) → Expr → List Fault
 assignment_faults lefts left rights right = or_else (left_faults lefts left ++ wrong rights right) (divisions ((sense rights right).zeros (right_shape rights right (left_width lefts left))))
 
--- one place comes before another
-abbrev pub comes_before : Span → Span → Bool
-comes_before a b =
-    if a.file == b.file
-    then (if a.line == b.line then nat_lt a.col b.col else nat_lt a.line b.line)
-    else nat_lt a.file b.file
-
 -- the earlier one of what is wrong and of a second writer
 abbrev pub first_of_two : Fault → Target → Refusal
-first_of_two f t = if comes_before t.span f.span then TwoWriters t.span t.place.signal else Wrong f
+first_of_two f t = if stands_before t.span f.span then TwoWriters t.span t.place.signal else Wrong f
 
 abbrev pub first_refusal : Option Fault → Option Target → Option Refusal
 first_refusal None None = None

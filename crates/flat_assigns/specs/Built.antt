@@ -29,12 +29,14 @@ pub record IsBuilt (old new : Building) (m : Meaning) (added : List Made) : Type
   pub declared : new.declared ≡ old.declared
   pub starts : new.starts ≡ old.starts
 
--- The places were joined to bits, from the lowest on.
-abbrev pub IsJoinedTo : (old new : Building) → List (Option Place) → List Bit → Type 0
-IsJoinedTo old new left bits = (joints : List Joint) × AreJoints old left bits joints × (new ≡ with_joints old joints)
-
 -- why there is no room: there would be so many cells, or there is no memory
 abbrev pub IsLimit : ℕ → AssignError → Type 0
 IsLimit cells (TooMany Cells) = max_cells < cells
 IsLimit cells Memory = Unit {0}
 IsLimit cells other = ⊥
+
+-- For proofs alone.
+
+-- The places were joined to bits, from the lowest on.
+abbrev pub IsJoinedTo : (old new : Building) → List (Option Place) → List Bit → Type 0
+IsJoinedTo old new left bits = (joints : List Joint) × AreJoints old left bits joints × (new ≡ with_joints old joints)

@@ -17,6 +17,8 @@ use Rattle.flat_assigns.specs.declared.refusal.Writer.{Writer}
 use Rattle.flat_assigns.specs.Sides.{Slice, part_form, slices, target_faults}
 use Rattle.flat_assigns.specs.Writers.{Target}
 
+-- For proofs alone.
+
 abbrev pub vector_in : Kept → Vector
 vector_in s = record { number = s.signal; width = s.width; low = s.low }
 

@@ -10,6 +10,8 @@ use Rattle.net_builder.specs.Written.{IsJoined, IsStored}
 use Rattle.flat_runs.specs.Adding.{IsBit}
 use Rattle.flat_assigns.specs.Writers.{Target, bit_targets, HasWriter, IsFirstWritten}
 
+-- For proofs alone.
+
 -- numbers of nets
 abbrev pub NetSet : Type 0
 NetSet = BTreeSet ℕ

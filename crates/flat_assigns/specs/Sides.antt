@@ -11,10 +11,10 @@ use Rattle.vlog_meaning.specs.declared.fault.Fault.{Fault}
 use Rattle.vlog_meaning.specs.declared.scope.Decl.{Decl}
 use Rattle.vlog_meaning.specs.declared.scope.Decl.TheVariants.{Constant}
 use Rattle.vlog_meaning.specs.Scopes.{Names, nothing}
-use Rattle.vlog_meaning.specs.Senses.{sense, fault, constant_faults}
+use Rattle.vlog_meaning.specs.Senses.{sense, fault}
 use Rattle.vlog_effects.specs.Expressions.{width_of}
 use Rattle.vlog_effects.specs.LeftSides.{Select, Whole, Bit, Range, Indexed, Part, Vector, parts_of, part_vector, places}
-use Rattle.elab_proc.specs.Refusals.{same_form}
+use Rattle.elab_proc.specs.Refusals.{index_faults, same_form}
 use Rattle.flat_runs.specs.Meanings.{Place}
 
 -- What is wrong in a left side: what is wrong in the expression of the same form, and besides, each part names a signal, and
@@ -23,11 +23,6 @@ use Rattle.flat_runs.specs.Meanings.{Place}
 abbrev pub constant_target : Span → Option Decl → List Fault
 constant_target span (Some (Constant value low is_signed)) = fault Unknown span ∷ []
 constant_target span decl = []
-
-abbrev pub index_faults : Names → Select → List Fault
-index_faults names (Bit at i) = constant_faults (sense names i)
-index_faults names (Indexed at base count) = constant_faults (sense names base)
-index_faults names select = []
 
 abbrev pub target_faults : Names → Part → List Fault
 target_faults names p = constant_target p.name.span (names p.name.name) ++ index_faults names p.select

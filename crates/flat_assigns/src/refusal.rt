@@ -2,7 +2,7 @@
 ghost use Rattle.std.specs.Prelude.{◌≡◌, Option, ℕ};
 ghost use Rattle.flat_assigns.specs.declared.refusal.AssignError.TheVariants.{Memory};
 ghost use Rattle.net_builder.specs.Refusals.{IsShort};
-ghost use Rattle.flat_assigns.specs.Assignments.{comes_before, first_refusal};
+ghost use Rattle.flat_assigns.specs.Assignments.{first_refusal};
 ghost use Rattle.flat_assigns.specs.Built.{IsLimit};
 ghost use Rattle.flat_assigns.specs.Parts.{IsWriter};
 ghost use Rattle.flat_assigns.specs.Writers.{Target};
@@ -65,19 +65,6 @@ pub(crate) struct Writer {
     pub(crate) signal: u32,
 }
 
-/// Whether one place comes before another.
-fn comes_before(a: Span, b: Span) -> bool
-    ensures { result ≡ comes_before a b }
-{
-    if a.file != b.file {
-        a.file < b.file
-    } else if a.line != b.line {
-        a.line < b.line
-    } else {
-        a.col < b.col
-    }
-}
-
 /// The earlier one of what is wrong and of a second writer; what is wrong where both stand at one place.
 pub(crate) fn first_refusal(wrong: Option<Fault>, second: Option<Writer>) -> Option<Refusal>
     ensures { (target : Option Target) → IsWriter target second → result ≡ first_refusal wrong target }
@@ -86,7 +73,7 @@ pub(crate) fn first_refusal(wrong: Option<Fault>, second: Option<Writer>) -> Opt
         (None, None) => None,
         (Some(fault), None) => Some(Refusal::Wrong(fault)),
         (None, Some(writer)) => Some(Refusal::TwoWriters(writer.span, writer.signal)),
-        (Some(fault), Some(writer)) => Some(if comes_before(writer.span, fault.span) {
+        (Some(fault), Some(writer)) => Some(if writer.span.stands_before(fault.span) {
             Refusal::TwoWriters(writer.span, writer.signal)
         } else {
             Refusal::Wrong(fault)

@@ -1,19 +1,8 @@
 -- The first read in an expression or a left side of each production, from those in its parts.
-use Rattle.std.proofs.Common.{◌≡◌, List, ◌++◌, sym, ap, ◌∙◌, subst}
-use Rattle.std.specs.Prelude.{Option, None}
-use Rattle.std.specs.List.{flat_map}
-use Rattle.mcy_base.specs.declared.span.Span.{Span}
-use Rattle.vlog_syntax.specs.declared.identifier.Number.{Number}
-use Rattle.vlog_syntax.specs.declared.identifier.Identifier.{Identifier}
-use Rattle.vlog_syntax.specs.declared.operator.UnaryOperator.{UnaryOperator}
-use Rattle.vlog_syntax.specs.declared.operator.BinaryOperator.{BinaryOperator}
-use Rattle.vlog_syntax.specs.declared.expr.Expr.{Expr}
+use Rattle.flat_clocks.proofs.Common.{◌≡◌, List, ◌++◌, sym, ap, ◌∙◌, subst, Option, None, flat_map, Span, Number, Identifier, UnaryOperator, BinaryOperator, Expr, LeftSide, Refusal, IsFirst}
+use Rattle.flat_clocks.proofs.Common.{ClockNames, Read, read, name_reads, expr_reads, form_reads, left_reads}
 use Rattle.vlog_syntax.specs.declared.expr.Expr.TheVariants as v
-use Rattle.vlog_syntax.specs.declared.left_side.LeftSide.{LeftSide}
 use Rattle.vlog_syntax.specs.declared.left_side.LeftSide.TheVariants as lv
-use Rattle.elab_proc.specs.declared.refusal.Refusal.{Refusal}
-use Rattle.elab_proc.specs.Order.{IsFirst}
-use Rattle.flat_clocks.specs.Reads.{ClockNames, Read, read, name_reads, expr_reads, form_reads, left_reads}
 use Rattle.flat_clocks.proofs.Firsts.{Joins, two, same, moved}
 use Rattle.flat_clocks.proofs.Readings as r
 

@@ -1,9 +1,5 @@
 -- The first of what is refused in parts, one after the other.
-use Rattle.std.proofs.Common.{◌≡◌, suc, ℕ, ◌<◌, List, ◌++◌, sym, subst, length, get_or, take}
-use Rattle.std.specs.Prelude.{Option}
-use Rattle.std.specs.List.{flat_map}
-use Rattle.elab_proc.specs.declared.refusal.Refusal.{Refusal}
-use Rattle.elab_proc.specs.Order.{IsFirst}
+use Rattle.flat_clocks.proofs.Common.{◌≡◌, suc, ℕ, ◌<◌, List, ◌++◌, sym, subst, length, get_or, take, Option, flat_map, Refusal, IsFirst}
 use Rattle.elab_proc.proofs.Lists.{flat_take}
 
 -- the earlier of two stands first in both lists

@@ -1,17 +1,9 @@
 -- The variables of loops, which are no clocks.
-use Rattle.std.proofs.Common.{◌≡◌, ℕ, Bool, true, false, not, ◌&&◌, List, [], refl, sym, ap, ◌∙◌, subst}
-use Rattle.std.proofs.Math.Path.{fun_ext}
-use Rattle.std.specs.Prelude.{Option, None, Some, is_some, if◌then◌else◌}
+use Rattle.flat_clocks.proofs.Common.{◌≡◌, ℕ, Bool, true, false, not, ◌&&◌, List, [], refl, sym, ap, ◌∙◌, subst, fun_ext, Option, None, Some, is_some, if◌then◌else◌, Identifier, LeftSide, Names}
+use Rattle.flat_clocks.proofs.Common.{names_of, with_name, Refusal, IsFirst, ClockNames, inside, left_reads, but}
 use Rattle.std.specs.Str.{bytes_eq}
-use Rattle.vlog_syntax.specs.declared.identifier.Identifier.{Identifier}
-use Rattle.vlog_syntax.specs.declared.left_side.LeftSide.{LeftSide}
 use Rattle.vlog_meaning.specs.declared.scope.Decl.{Decl}
-use Rattle.vlog_meaning.specs.Scopes.{Names, names_of, with_name}
 use Rattle.vlog_meaning.proofs.Redeclared.{last_counts}
-use Rattle.elab_proc.specs.declared.refusal.Refusal.{Refusal}
-use Rattle.elab_proc.specs.Order.{IsFirst}
-use Rattle.flat_clocks.specs.Reads.{ClockNames, inside, left_reads}
-use Rattle.flat_clocks.specs.Views.{but}
 
 hidden : (d : Decl) (b : Bool) (o : Option Decl) (x : Bool) → (not (is_some (if b then Some d else o)) && x) ≡ (not b && (not (is_some o) && x))
 hidden d true o x = refl

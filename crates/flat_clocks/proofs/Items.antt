@@ -1,16 +1,7 @@
 -- What is refused in an item, from what is refused in its parts.
-use Rattle.std.proofs.Common.{◌≡◌, ℕ, List, sym, subst}
-use Rattle.std.specs.Prelude.{Option}
-use Rattle.vlog_syntax.specs.declared.expr.Expr.{Expr}
+use Rattle.flat_clocks.proofs.Common.{◌≡◌, ℕ, List, sym, subst, Option, Expr, Names, Signal, FlatItem, Flat, Refusal, IsFirst, Clocks, clock_names, names_at, passed_on}
 use Rattle.vlog_syntax.specs.declared.item.Process.{Process}
-use Rattle.vlog_meaning.specs.Scopes.{Names}
-use Rattle.flat_scopes.specs.declared.signal.Signal.{Signal}
-use Rattle.flat_instances.specs.declared.item.FlatItem.{FlatItem}
 use Rattle.flat_instances.specs.declared.item.FlatItem.TheVariants as f
-use Rattle.flat_items.specs.Flattened.{Flat}
-use Rattle.elab_proc.specs.declared.refusal.Refusal.{Refusal}
-use Rattle.elab_proc.specs.Order.{IsFirst}
-use Rattle.flat_clocks.specs.Clocks.{Clocks, clock_names, names_at, passed_on}
 use Rattle.flat_clocks.specs.Refusals.{process_reads, entering_reads, clock_refusals}
 
 module _ (c : Clocks) (flat : Flat) (item : FlatItem) (o : Option Refusal) (k : ℕ) (names : Names) (at : names_at flat.places k ≡ names) where

@@ -1,3 +1,4 @@
+mod Common
 mod Readings
 mod Firsts
 mod Sources

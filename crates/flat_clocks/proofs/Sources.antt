@@ -1,19 +1,12 @@
 -- Sources in a table, and the items of a design one at a time.
-use Rattle.std.proofs.Common.{◌≡◌, zero, suc, ℕ, ◌<◌, ◌≤◌, Bool, true, false, List, [], ◌∷◌, refl, sym, ap, ◌∙◌, cond, nat_eq, length, get_or, drop, arith}
-use Rattle.std.proofs.Math.Path.{fun_ext}
+use Rattle.flat_clocks.proofs.Common.{◌≡◌, zero, suc, ℕ, ◌<◌, ◌≤◌, Bool, true, false, List, [], ◌∷◌, refl, sym, ap, ◌∙◌, cond, nat_eq, length, get_or, drop, arith, fun_ext, Option, None, Some}
+use Rattle.flat_clocks.proofs.Common.{slice_get, if◌then◌else◌, option_map, Names, Signal, FlatItem, Flat, Sources, names_at, own, with_source, with_item, with_items, sources, source_or, sources_in}
 use Rattle.std.proofs.Math.Seq.{drop-cons}
-use Rattle.std.specs.Prelude.{Option, None, Some, slice_get, if◌then◌else◌}
-use Rattle.std.specs.Option.{option_map}
 use Rattle.std.specs.BTreeMap.{BTreeMap, get, is_at, Updates, IsEmpty}
 use Rattle.std.specs.Ordering.{nat_cmp}
 use Rattle.std.proofs.lemmas.Bool.Decides.{nat_tests}
-use Rattle.vlog_meaning.specs.Scopes.{Names}
-use Rattle.flat_scopes.specs.declared.signal.Signal.{Signal}
-use Rattle.flat_instances.specs.declared.item.FlatItem.{FlatItem}
-use Rattle.flat_items.specs.Flattened.{Flat}
 use Rattle.flat_instances.specs.Places.{Place}
-use Rattle.flat_clocks.specs.Clocks.{Sources, names_in, names_at, own, with_source, with_item, with_items, sources}
-use Rattle.flat_clocks.specs.Views.{source_or, sources_in}
+use Rattle.flat_clocks.specs.Clocks.{names_in}
 
 at_number : (k q : ℕ) → is_at (nat_cmp k) q ≡ nat_eq k q
 at_number k q = grind (arith, nat_tests)

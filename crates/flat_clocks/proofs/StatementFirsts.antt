@@ -1,23 +1,8 @@
 -- The first read in a statement of each kind, from those in its parts.
-use Rattle.std.proofs.Common.{◌≡◌, List, [], ◌++◌, refl, sym, ap, ◌∙◌, subst, append_assoc}
-use Rattle.std.specs.Prelude.{Option, None, Some}
-use Rattle.std.specs.List.{flat_map}
+use Rattle.flat_clocks.proofs.Common.{◌≡◌, List, [], ◌++◌, refl, sym, ap, ◌∙◌, subst, append_assoc, Option, None, Some, flat_map, Span, Identifier, Expr, out-LeftSide, Argument, Assignment, CaseKind}
+use Rattle.flat_clocks.proofs.Common.{CaseItem, EventControl, Stmt, name_alone, Refusal, IsFirst, ClockNames, expr_reads, assignment_reads, argument_reads, turn_reads, inside, stmt_reads, item_reads}
 use Rattle.std.proofs.lemmas.List.{append-nil}
-use Rattle.mcy_base.specs.declared.span.Span.{Span}
-use Rattle.vlog_syntax.specs.declared.identifier.Identifier.{Identifier}
-use Rattle.vlog_syntax.specs.declared.expr.Expr.{Expr}
-use Rattle.vlog_syntax.specs.declared.left_side.LeftSide.{out-LeftSide}
-use Rattle.vlog_syntax.specs.declared.stmt.Argument.{Argument}
-use Rattle.vlog_syntax.specs.declared.stmt.Assignment.{Assignment}
-use Rattle.vlog_syntax.specs.declared.stmt.CaseKind.{CaseKind}
-use Rattle.vlog_syntax.specs.declared.stmt.CaseItem.{CaseItem}
-use Rattle.vlog_syntax.specs.declared.stmt.EventControl.{EventControl}
-use Rattle.vlog_syntax.specs.declared.stmt.Stmt.{Stmt}
 use Rattle.vlog_syntax.specs.declared.stmt.Stmt.TheVariants as v
-use Rattle.vlog_effects.specs.Steps.{name_alone}
-use Rattle.elab_proc.specs.declared.refusal.Refusal.{Refusal}
-use Rattle.elab_proc.specs.Order.{IsFirst}
-use Rattle.flat_clocks.specs.Reads.{ClockNames, expr_reads, assignment_reads, argument_reads, turn_reads, inside, stmt_reads, item_reads}
 use Rattle.flat_clocks.proofs.Firsts.{same, moved}
 use Rattle.flat_clocks.proofs.StatementReadings as r
 

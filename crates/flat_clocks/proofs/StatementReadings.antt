@@ -1,24 +1,10 @@
 -- What a statement reads, by its variant.
-use Rattle.std.proofs.Common.{◌≡◌, List, [], ◌∷◌, ◌++◌, map, refl, sym, ap, ◌∙◌}
-use Rattle.std.specs.Prelude.{Option, Some, None}
-use Rattle.std.specs.List.{flat_map}
-use Rattle.std.specs.Option.{option_map}
-use Rattle.mcy_base.specs.declared.span.Span.{Span}
-use Rattle.vlog_syntax.specs.declared.identifier.Identifier.{Identifier}
-use Rattle.vlog_syntax.specs.declared.expr.Expr.{Expr}
-use Rattle.vlog_syntax.specs.declared.left_side.LeftSide.{out-LeftSide}
-use Rattle.vlog_syntax.specs.declared.stmt.Argument.{Argument}
-use Rattle.vlog_syntax.specs.declared.stmt.Assignment.{Assignment}
-use Rattle.vlog_syntax.specs.declared.stmt.CaseKind.{CaseKind}
-use Rattle.vlog_syntax.specs.declared.stmt.CaseItem.{CaseItem, out-CaseItem}
-use Rattle.vlog_syntax.specs.declared.stmt.EventControl.{EventControl}
-use Rattle.vlog_syntax.specs.declared.stmt.Stmt.{Stmt}
+use Rattle.flat_clocks.proofs.Common.{◌≡◌, List, [], ◌∷◌, ◌++◌, map, refl, sym, ap, ◌∙◌, Option, Some, None, flat_map, option_map, Span, Identifier, Expr, out-LeftSide, Argument, Assignment, CaseKind}
+use Rattle.flat_clocks.proofs.Common.{CaseItem, out-CaseItem, EventControl, Stmt, name_alone, Refusal, ClockNames, Reading, expr_reads, assignment_reads, argument_reads, in_turn, else_reads}
+use Rattle.flat_clocks.proofs.Common.{turn_reads, inside, stmt_step, item_step, stmt_reads, item_reads}
 use Rattle.vlog_syntax.specs.declared.stmt.Stmt.TheVariants as v
 use Rattle.vlog_syntax.specs.declared.stmt.Stmt.TheOpen as s
 use Rattle.vlog_syntax.specs.declared.stmt.Stmt.TheFolds.{fold-roll-Stmt, fold_out-CaseItem, map-Stmt}
-use Rattle.vlog_effects.specs.Steps.{name_alone}
-use Rattle.elab_proc.specs.declared.refusal.Refusal.{Refusal}
-use Rattle.flat_clocks.specs.Reads.{ClockNames, Reading, expr_reads, assignment_reads, argument_reads, in_turn, else_reads, turn_reads, inside, stmt_step, item_step, stmt_reads, item_reads}
 
 -- several statements, and several items of a case
 

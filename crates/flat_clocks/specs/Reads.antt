@@ -139,5 +139,7 @@ item_step i is = flat_map (expr_reads is) i.labels ++ i.body is
 abbrev pub stmt_reads : Stmt → Reading
 stmt_reads = fold-Stmt Reading Reading stmt_step item_step
 
+-- For proofs alone.
+
 abbrev pub item_reads : CaseItem → Reading
 item_reads = fold-CaseItem Reading Reading stmt_step item_step

@@ -19,6 +19,8 @@ sources_in m k = source_or k (get nat_cmp m k)
 abbrev pub clocks_in : Kept → Clocks
 clocks_in c = record { source = sources_in c.sources; clock = c.clock }
 
+-- For proofs alone.
+
 -- these names, but for those that are declared here
 abbrev pub but : Names → ClockNames → ClockNames
 but variables is name = not (is_some (variables name)) && is name

@@ -1,10 +1,8 @@
 -- A port has a connection where its name is among those of the ports that connections have.
-use Rattle.std.proofs.Common.{◌≡◌, ℕ, Bool, ◌||◌, List, [], ◌∷◌, refl, ap}
+use Rattle.flat_instances.proofs.Common.{◌≡◌, ℕ, Bool, ◌||◌, List, [], ◌∷◌, refl, ap, is_among, is_wired, ports_in}
 use Rattle.std.specs.Str.{bytes_eq}
-use Rattle.flat_scopes.specs.Openings.{is_among}
 use Rattle.flat_scopes.specs.declared.wire.Wire.{Wire}
 use Rattle.flat_scopes.specs.declared.wire.Wire.TheVariants.{To, Mismatch}
-use Rattle.flat_instances.specs.Wires.{is_wired, ports_in}
 
 pub among_ports : (wires : List Wire) (name : List ℕ) → is_among (ports_in wires) name ≡ is_wired wires name
 among_ports [] name = refl

@@ -1,6 +1,7 @@
 -- The values that an instance gives to the parameters of its module (IEEE 1364-2005, 12.2.2).
-use Rattle.std.specs.Prelude.{Bool, not, ◌==◌, nat_lt, List, [], ◌∷◌, ◌++◌, map, Option, None, Some, if◌then◌else◌}
+use Rattle.std.specs.Prelude.{not, List, [], ◌∷◌, ◌++◌, map, Option, None, Some, if◌then◌else◌}
 use Rattle.mcy_base.specs.declared.span.Span.{Span}
+use Rattle.mcy_base.specs.Places.{stands_before}
 use Rattle.vlog_syntax.specs.declared.expr.Expr.{Expr}
 use Rattle.vlog_syntax.specs.Places.{first_token}
 use Rattle.vlog_syntax.specs.declared.identifier.Identifier.{Identifier}
@@ -129,12 +130,9 @@ place_of (Twice at) = at
 place_of (TooMany at) = at
 place_of (Value e) = const_place e
 
-abbrev pub is_before : Span → Span → Bool
-is_before a b = if a.file == b.file then (if a.line == b.line then nat_lt a.col b.col else nat_lt a.line b.line) else nat_lt a.file b.file
-
 abbrev pub sooner : Option ParameterError → ParameterError → ParameterError
 sooner None y = y
-sooner (Some x) y = if is_before (place_of y) (place_of x) then y else x
+sooner (Some x) y = if stands_before (place_of y) (place_of x) then y else x
 
 abbrev pub first_of : Option ParameterError → List ParameterError → Option ParameterError
 first_of x [] = x

@@ -71,14 +71,6 @@ is_wired (To port value ∷ more) name = bytes_eq port.name name || is_wired mor
 
 -- the names of the ports that have one
 
-abbrev pub port_in : Wire → List Identifier
-port_in (Mismatch at) = []
-port_in (To port value) = port ∷ []
-
-abbrev pub ports_in : List Wire → List Identifier
-ports_in [] = []
-ports_in (w ∷ more) = port_in w ++ ports_in more
-
 abbrev pub open_item : (number : ℕ) → Direction → Option FlatItem
 open_item number Input = Some (Open number)
 open_item number Output = None
@@ -97,3 +89,13 @@ unwired child wires (port ∷ more) = option_to_list (unwired_item child wires p
 -- the connections in written order, and then the inputs that have none
 abbrev pub connected : (outside inside : ℕ) → Opened → List Wire → List Identifier → List FlatItem
 connected outside inside child wires ports = wired outside inside child wires ++ unwired child wires ports
+
+-- For proofs alone.
+
+abbrev pub port_in : Wire → List Identifier
+port_in (Mismatch at) = []
+port_in (To port value) = port ∷ []
+
+abbrev pub ports_in : List Wire → List Identifier
+ports_in [] = []
+ports_in (w ∷ more) = port_in w ++ ports_in more

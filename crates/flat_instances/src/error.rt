@@ -1,6 +1,6 @@
 //! Why an item of a design is refused.
 ghost use Rattle.std.specs.Prelude.{◌≡◌, Some};
-ghost use Rattle.flat_instances.specs.Gifts.{const_place, place_of, is_before, sooner};
+ghost use Rattle.flat_instances.specs.Gifts.{const_place, place_of, sooner};
 
 use flat_scopes::Refusal;
 use mcy_base::Span;
@@ -60,19 +60,6 @@ fn const_place(error: ConstError) -> Span
     }
 }
 
-/// Whether a place stands before another.
-fn is_before(first: Span, second: Span) -> bool
-    ensures { result ≡ is_before first second }
-{
-    if first.file != second.file {
-        first.file < second.file
-    } else if first.line != second.line {
-        first.line < second.line
-    } else {
-        first.col < second.col
-    }
-}
-
 impl ParameterError {
     /// Its place.
     pub fn span(self) -> Span
@@ -93,7 +80,7 @@ pub(crate) fn sooner(first: Option<ParameterError>, other: ParameterError) -> Pa
 {
     match first {
         Some(first) => {
-            if is_before(other.span(), first.span()) {
+            if other.span().stands_before(first.span()) {
                 other
             } else {
                 first

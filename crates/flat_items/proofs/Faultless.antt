@@ -1,11 +1,8 @@
 -- A constant, or why it has no value.
-use Rattle.std.proofs.Common.{◌≡◌, ℕ, Option, None, Some, Ok, Err, sym, ap, true≢false}
-use Rattle.std.specs.Option.{option_map, is_some}
+use Rattle.flat_items.proofs.Common.{◌≡◌, ℕ, Option, None, Some, Ok, Err, sym, ap, true≢false, option_map, is_some, Constant, faultless}
 use Rattle.vlog_meaning.specs.declared.fault.ConstError.{ConstError}
 use Rattle.vlog_meaning.specs.declared.fault.Fault.{Fault}
 use Rattle.vlog_meaning.specs.Answers.{const_error}
-use Rattle.flat_instances.specs.declared.error.ItemError.TheVariants.{Constant}
-use Rattle.flat_items.specs.Flattened.{faultless}
 
 pub kept : (o : Option Fault) (v w : ℕ) → None ≡ option_map const_error o → w ≡ v → Ok w ≡ faultless o v
 kept None v w h e = ap (λ (x : ℕ). Ok x) e

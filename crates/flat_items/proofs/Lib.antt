@@ -1,3 +1,4 @@
+mod Common
 mod Faultless
 mod Naming
 mod Numbered

@@ -1,10 +1,6 @@
 -- Names of blocks, from what the code has in hand.
-use Rattle.std.proofs.Common.{◌≡◌, ℕ, List, ◌++◌, codes, decimal, Option, None, Some, IsSome, sym, ap, ◌∙◌, subst, rules}
-use Rattle.vlog_syntax.specs.declared.identifier.Identifier.{Identifier}
-use Rattle.vlog_syntax.specs.declared.item.Item.{Item}
-use Rattle.flat_scopes.specs.declared.signal.What.{What}
-use Rattle.flat_scopes.specs.Owns.{Own}
-use Rattle.flat_items.specs.Flattened.{label_of, IsFree, free, taken, IsBlockName, labelled, unlabelled}
+use Rattle.flat_items.proofs.Common.{◌≡◌, ℕ, List, ◌++◌, codes, decimal, Option, None, Some, IsSome, sym, ap, ◌∙◌, subst, rules, Identifier, Item, What, Own, label_of, IsFree, free, taken}
+use Rattle.flat_items.proofs.Common.{IsBlockName, labelled, unlabelled}
 
 some_is : (x : What) → IsSome (Some x)
 some_is x = search rules

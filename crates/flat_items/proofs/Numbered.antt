@@ -1,23 +1,17 @@
 -- Look-ups in the map of the numbers of modules.
-use Rattle.std.proofs.Common.{◌≡◌, Bool, ℕ, ◌+◌, ◌<◌, List, [], ◌∷◌, map, length, drop, get_or, refl, sym, ap, ◌∙◌, subst, cond}
+use Rattle.flat_items.proofs.Common.{◌≡◌, Bool, ℕ, ◌+◌, ◌<◌, List, [], ◌∷◌, map, length, drop, get_or, refl, sym, ap, ◌∙◌, subst, cond, bytes_eq, drop_more, Module, Identifier, ItemError, module_at}
+use Rattle.flat_items.proofs.Common.{module_from, placed_in, AreNumbered, number_of, number_entry, with_number}
 use Rattle.std.proofs.Math.Path.{fun_ext}
 use Rattle.std.specs.Map.{lookup}
 use Rattle.std.specs.BTreeMap.{BTreeMap, UpdatesBy, is_at}
 use Rattle.std.specs.String.{string_bytes, string_cmp}
-use Rattle.std.specs.Str.{bytes_eq}
 use Rattle.std.specs.Cmp.Lexicographic.{slice_cmp}
 use Rattle.std.specs.Ordering.{nat_cmp}
 use Rattle.std.specs.declared.string.String.{String}
 use Rattle.std.specs.declared.alloc.Global.{Global}
 use Rattle.std.specs.Prelude.{Option, Some, Result, if◌then◌else◌}
-use Rattle.std.proofs.lemmas.List.{drop_more}
 use Rattle.std.proofs.lemmas.Map.Text.{btree_map_updates_text}
 use Rattle.std.proofs.lemmas.Map.Text.{is_eq-slice_cmp}
-use Rattle.vlog_syntax.specs.declared.module.Module.{Module}
-use Rattle.vlog_syntax.specs.declared.identifier.Identifier.{Identifier}
-use Rattle.flat_instances.specs.declared.error.ItemError.{ItemError}
-use Rattle.flat_items.specs.Flattened.{module_at, module_from, placed_in}
-use Rattle.flat_items.specs.Numbers.{AreNumbered, number_of, number_entry, with_number}
 
 pub looked_up : (name : List ℕ) (es : List (String Global × ℕ)) → lookup (is_at (λ k. slice_cmp nat_cmp name (string_bytes k))) es ≡ number_of (map number_entry es) name
 looked_up name [] = refl

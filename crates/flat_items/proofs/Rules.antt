@@ -1,34 +1,18 @@
 -- What each part is replaced by, from what the code has in hand.
-use Rattle.std.proofs.Common.{◌≡◌, ℕ, zero, suc, map, true≢false, Bool, true, false, List, [], ◌∷◌, ◌++◌, length, Option, None, Some, slice_get, Result, Ok, Err, sym, ap, ◌∙◌, subst}
-use Rattle.std.specs.Option.{option_map, is_some}
+use Rattle.flat_items.proofs.Common.{◌≡◌, ℕ, zero, suc, map, true≢false, Bool, true, false, List, [], ◌∷◌, ◌++◌, length, Option, None, Some, slice_get, Result, Ok, Err, sym, ap, ◌∙◌, subst}
+use Rattle.flat_items.proofs.Common.{option_map, is_some, Identifier, GenerateLoop, Item, out-Item, Module, Names, Step, Signal, What, Head, Opened, unopened, Opens, ItemError, Scopes, Task, Turn}
+use Rattle.flat_items.proofs.Common.{Flat, block_head, block_items, add_all, entered, is_full, tasks_of, step_items, step_tasks, module_at, placed_in, condition_in, integer_in, taken_tasks}
+use Rattle.flat_items.proofs.Common.{chosen_tasks, label_of, IsBlockName, OpensBlock, Sees, genvar_fault, turn_start, inner_prefix, no_names, OpensInstance, Kept, Place, place_of, Replaces, Flattens}
+use Rattle.flat_items.proofs.Common.{replaces, PlacesInstance, step, refused, not_placed, placed, condition, arm_null, arm_condition, arm_full, arm_block, bad_genvar, bad_start, loop, turn_ended}
+use Rattle.flat_items.proofs.Common.{bad_turn, turn, no_construct, is_block_form, is_construct_form, first_turn, outcome, TurnsOnce, turn_name, next_turn}
 use Rattle.mcy_base.specs.declared.span.Span.{Span}
 use Rattle.vlog_syntax.specs.declared.expr.Expr.{Expr}
-use Rattle.vlog_syntax.specs.declared.identifier.Identifier.{Identifier}
-use Rattle.vlog_syntax.specs.declared.item.GenerateLoop.{GenerateLoop}
-use Rattle.vlog_syntax.specs.declared.item.Item.{Item, out-Item}
 use Rattle.vlog_syntax.specs.declared.item.Item.TheVariants as i
-use Rattle.vlog_syntax.specs.declared.module.Module.{Module}
-use Rattle.vlog_meaning.specs.Scopes.{Names}
-use Rattle.flat_scopes.specs.declared.opening.Step.{Step}
-use Rattle.flat_scopes.specs.declared.signal.Signal.{Signal}
-use Rattle.flat_scopes.specs.declared.signal.What.{What}
-use Rattle.flat_scopes.specs.declared.opening.Head.{Head}
 use Rattle.flat_scopes.specs.declared.opening.Placing.{Placing}
-use Rattle.flat_scopes.specs.Openings.{Opened, unopened}
-use Rattle.flat_scopes.specs.Opens.{Opens}
-use Rattle.flat_instances.specs.declared.error.ItemError.{ItemError}
-use Rattle.flat_instances.specs.declared.error.ItemError.TheVariants.{Scopes}
 use Rattle.flat_instances.specs.declared.item.FlatItem.{FlatItem}
 use Rattle.flat_instances.specs.declared.item.FlatItem.TheVariants as f
-use Rattle.flat_items.specs.declared.task.Task.{Task}
 use Rattle.flat_items.specs.declared.task.Task.TheVariants as t
-use Rattle.flat_items.specs.declared.task.Turn.{Turn}
 use Rattle.flat_items.specs.declared.turn.Outcome.TheVariants.{Goes, Ends, Refused}
-use Rattle.flat_items.specs.Flattened.{Flat, block_head, block_items, add_all, entered, is_full, tasks_of, step_items, step_tasks, module_at, placed_in, condition_in, integer_in, taken_tasks, chosen_tasks, label_of, IsBlockName, OpensBlock, Sees, genvar_fault, turn_start}
-use Rattle.flat_instances.specs.Instances.{inner_prefix, no_names, OpensInstance}
-use Rattle.flat_instances.specs.declared.place.Place.{Place as Kept}
-use Rattle.flat_instances.specs.Places.{Place, place_of}
-use Rattle.flat_items.specs.Replacing.{Replaces, Flattens, replaces, PlacesInstance, step, refused, not_placed, placed, condition, arm_null, arm_condition, arm_full, arm_block, bad_genvar, bad_start, loop, turn_ended, bad_turn, turn, no_construct, is_block_form, is_construct_form, first_turn, outcome, TurnsOnce, turn_name, next_turn}
 
 -- whatever the modules are
 abbrev pub Fits : Task → Flat → List Task → Flat → Type 0

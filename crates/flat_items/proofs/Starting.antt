@@ -1,17 +1,10 @@
 -- The scope of a turn.
-use Rattle.std.proofs.Common.{◌≡◌, List, true, Some, ap, ◌∙◌}
-use Rattle.vlog_syntax.specs.declared.item.GenerateLoop.{GenerateLoop}
+use Rattle.flat_items.proofs.Common.{◌≡◌, List, true, Some, ap, ◌∙◌, GenerateLoop, Names, Signal, Opened, unopened, own_name, Turn, turn_start, Place}
 use Rattle.vlog_meaning.specs.declared.scope.Decl.{Decl}
 use Rattle.vlog_meaning.specs.declared.scope.Decl.TheVariants.{Constant}
-use Rattle.vlog_meaning.specs.Scopes.{Names}
-use Rattle.flat_scopes.specs.declared.signal.Signal.{Signal}
 use Rattle.flat_scopes.specs.declared.signal.What.TheVariants as w
-use Rattle.flat_scopes.specs.Openings.{Opened, unopened, own_name}
 use Rattle.flat_scopes.specs.Valued.{constant_name}
 use Rattle.flat_scopes.specs.Words.{word}
-use Rattle.flat_items.specs.declared.task.Turn.{Turn}
-use Rattle.flat_items.specs.Flattened.{turn_start}
-use Rattle.flat_instances.specs.Places.{Place}
 
 pub turn_starts : (o n : Opened) (p : Place) (signals : List Signal) (x : Turn) (head : GenerateLoop) (decl : Decl) (names : Names)
     → names ≡ p.names → o ≡ unopened names signals → head ≡ x.head → decl ≡ Constant (word 32 x.value) 0 true → n ≡ constant_name o head.name decl (o.own head.name.name) → n ≡ turn_start p signals x

@@ -1,21 +1,8 @@
 -- Lookups of scopes and modules, from what the code has in hand.
-use Rattle.std.proofs.Common.{◌≡◌, ℕ, zero, suc, ◌+◌, ◌<◌, ◌≤◌, Bool, true, false, List, [], ◌∷◌, map, length, Option, None, Some, refl, sym, ap, subst, ◌∙◌, arith, true≢false}
+use Rattle.flat_items.proofs.Common.{◌≡◌, ℕ, zero, suc, ◌+◌, ◌<◌, ◌≤◌, Bool, true, false, List, [], ◌∷◌, map, length, Option, None, Some, refl, sym, ap, subst, ◌∙◌, arith, true≢false, is_some}
+use Rattle.flat_items.proofs.Common.{bytes_eq, Module, Names, Head, Signal, Opened, unopened, OpensModule, what_of, no_names, Kept, Task, Flat, add_all, entered, module_from, module_at, tasks_of}
+use Rattle.flat_items.proofs.Common.{Flattens, FlattensModule, repeated, top_head, place_of}
 use Rattle.std.specs.Prelude.{slice_get, if◌then◌else◌}
-use Rattle.std.specs.Option.{is_some}
-use Rattle.std.specs.Str.{bytes_eq}
-use Rattle.vlog_syntax.specs.declared.module.Module.{Module}
-use Rattle.vlog_meaning.specs.Scopes.{Names}
-use Rattle.flat_scopes.specs.declared.opening.Head.{Head}
-use Rattle.flat_scopes.specs.declared.signal.Signal.{Signal}
-use Rattle.flat_scopes.specs.Openings.{Opened, unopened}
-use Rattle.flat_scopes.specs.Opens.{OpensModule}
-use Rattle.flat_scopes.specs.Owns.{what_of}
-use Rattle.flat_instances.specs.Instances.{no_names}
-use Rattle.flat_instances.specs.declared.place.Place.{Place as Kept}
-use Rattle.flat_items.specs.declared.task.Task.{Task}
-use Rattle.flat_items.specs.Flattened.{Flat, add_all, entered, module_from, module_at, tasks_of}
-use Rattle.flat_items.specs.Replacing.{Flattens, FlattensModule, repeated, top_head}
-use Rattle.flat_instances.specs.Places.{place_of}
 use Rattle.flat_items.specs.Tops.{IsTop, own_at}
 
 pub own_found : (xs : List Kept) (k : ℕ) (p : Kept) (name : List ℕ) → slice_get xs k ≡ Some p → own_at (map place_of xs) k name ≡ what_of p.own name

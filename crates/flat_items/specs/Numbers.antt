@@ -7,6 +7,8 @@ use Rattle.std.specs.declared.alloc.Global.{Global}
 use Rattle.vlog_syntax.specs.declared.module.Module.{Module}
 use Rattle.flat_items.specs.Flattened.{module_at}
 
+-- For proofs alone.
+
 -- what the entries of a map say of a name
 abbrev pub number_of : List (List ℕ × ℕ) → List ℕ → Option ℕ
 number_of [] name = None

@@ -1,32 +1,14 @@
 -- Scopes that are entered: instances, blocks, turns and the top.
-use Rattle.std.proofs.Common.{◌≡◌, ℕ, ◌+◌, ◌<◌, ◌≤◌, true, List, [], ◌∷◌, ◌++◌, length, Option, None, Some, Result, Ok, Err, refl, sym, ap, ◌∙◌, subst, arith}
-use Rattle.std.specs.Prelude.{slice_get}
-use Rattle.std.specs.Str.{bytes_eq}
-use Rattle.std.proofs.lemmas.List.{length_push, append-nil}
-use Rattle.std.proofs.lemmas.Option.{none-some}
-use Rattle.vlog_syntax.specs.declared.item.Item.{Item}
-use Rattle.vlog_syntax.specs.declared.module.Module.{Module}
+use Rattle.flat_laws.proofs.Common.{◌≡◌, ℕ, ◌+◌, ◌<◌, ◌≤◌, true, List, [], ◌∷◌, ◌++◌, length, Option, None, Some, Result, Ok, Err, refl, sym, ap, ◌∙◌, subst, arith, slice_get, bytes_eq, length_push}
+use Rattle.flat_laws.proofs.Common.{append-nil, none-some, Item, Module, Names, Placing, Step, Signal, What, Opened, unopened, ItemError, FlatItem, Task, head_of, inner_prefix, no_names, gift_of}
+use Rattle.flat_laws.proofs.Common.{parameters_of, ports_of, Place, AreSized, NamesSignal, OwnsSignal, PlaceStands, AllStand, times_declared}
 use Rattle.vlog_meaning.specs.declared.scope.Decl.TheVariants.{Constant}
-use Rattle.vlog_meaning.specs.Scopes.{Names}
-use Rattle.flat_scopes.specs.declared.opening.Placing.{Placing}
-use Rattle.flat_scopes.specs.declared.opening.Step.{Step}
-use Rattle.flat_scopes.specs.declared.signal.Signal.{Signal}
-use Rattle.flat_scopes.specs.declared.signal.What.{What}
 use Rattle.flat_scopes.specs.declared.signal.What.TheVariants as w
-use Rattle.flat_scopes.specs.Openings.{Opened, unopened}
 use Rattle.flat_scopes.specs.Words.{word}
-use Rattle.flat_instances.specs.declared.error.ItemError.{ItemError}
-use Rattle.flat_instances.specs.declared.item.FlatItem.{FlatItem}
-use Rattle.flat_items.specs.declared.task.Task.{Task}
 use Rattle.flat_items.specs.declared.task.Task.TheVariants as t
 use Rattle.flat_items.specs.declared.task.Turn.{Turn}
 use Rattle.flat_items.specs.Flattened.{Flat, block_head, block_items, add_all, entered, kept_names, tasks_of, integer_in, taken_tasks, OpensBlock, turn_start}
-use Rattle.flat_instances.specs.Instances.{head_of, inner_prefix, no_names}
-use Rattle.flat_instances.specs.Gifts.{gift_of, parameters_of}
-use Rattle.flat_scopes.specs.Wires.{ports_of}
-use Rattle.flat_instances.specs.Places.{Place}
 use Rattle.flat_items.specs.Replacing.{PlacesInstance, TurnsOnce, turn_name, next_turn, stepped, step_fault}
-use Rattle.flat_laws.specs.Sound.{AreSized, NamesSignal, OwnsSignal, PlaceStands, AllStand, times_declared}
 use Rattle.flat_laws.proofs.Lists.{either, holds_more, each_more, below}
 use Rattle.flat_laws.proofs.Growing.{Grows, AllSteps, listed, times_listed, grows_self, named_on, owned_on}
 use Rattle.flat_laws.proofs.Opening.{Keeps, kept_name}

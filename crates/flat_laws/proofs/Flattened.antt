@@ -1,34 +1,24 @@
 -- Flattened designs are sound.
-use Rattle.std.proofs.Common.{◌≡◌, inl, inr, ℕ, ◌+◌, ◌≤◌, List, [], ◌∷◌, ◌++◌, length, None, Some, refl, subst, arith}
-use Rattle.std.specs.Prelude.{slice_get}
-use Rattle.vlog_syntax.specs.declared.identifier.Identifier.{Identifier}
+use Rattle.flat_laws.proofs.Common.{◌≡◌, inl, inr, ℕ, ◌+◌, ◌≤◌, List, [], ◌∷◌, ◌++◌, length, None, Some, refl, subst, arith, slice_get, Identifier, Module, Step, Signal, Opened, unopened, FlatItem}
+use Rattle.flat_laws.proofs.Common.{Task, no_names, Place, ports_of, AreAccepted, ArePorts, times_declared}
 use Rattle.vlog_syntax.specs.declared.item.Item.TheVariants as i
-use Rattle.vlog_syntax.specs.declared.module.Module.{Module}
-use Rattle.flat_scopes.specs.declared.opening.Step.{Step}
 use Rattle.flat_scopes.specs.declared.opening.Step.TheVariants as s
-use Rattle.flat_scopes.specs.declared.signal.Signal.{Signal}
-use Rattle.flat_scopes.specs.Openings.{Opened, unopened}
 use Rattle.flat_scopes.specs.Owns.{Own}
-use Rattle.flat_instances.specs.declared.item.FlatItem.{FlatItem}
 use Rattle.flat_instances.specs.declared.item.FlatItem.TheVariants as f
 use Rattle.flat_instances.specs.declared.error.ItemError.TheVariants as err
-use Rattle.flat_items.specs.declared.task.Task.{Task}
 use Rattle.flat_items.specs.declared.task.Task.TheVariants as t
 use Rattle.flat_items.specs.Flattened.{Flat, entered, kept_names, tasks_of, step_items, condition_in, taken_tasks, module_at}
-use Rattle.flat_instances.specs.Instances.{no_names}
-use Rattle.flat_instances.specs.Places.{Place}
-use Rattle.flat_scopes.specs.Wires.{ports_of}
-use Rattle.flat_items.specs.Replacing.{Replaces, Flattens, replaces, flattened, step, refused, not_placed, placed, condition, arm_null, arm_condition, arm_full, arm_block, bad_genvar, bad_start, loop, turn_ended, bad_turn, turn, no_construct, first_turn, is_number, repeated, top_head, FlattensModule}
+use Rattle.flat_items.specs.Replacing.{Replaces, Flattens, replaces, flattened, step, refused, not_placed, placed, condition, arm_null, arm_condition, arm_full, arm_block, bad_genvar, bad_start, loop}
+use Rattle.flat_items.specs.Replacing.{turn_ended, bad_turn, turn, no_construct, first_turn, is_number, repeated, top_head, FlattensModule}
 use Rattle.flat_laws.specs.Laws.{FlattenedAreSound, TopHasPorts}
-use Rattle.flat_laws.specs.Ports.{AreAccepted, ArePorts}
-use Rattle.flat_laws.specs.Sound.{times_declared}
 use Rattle.flat_laws.proofs.Lists.{either, below, below_none}
 use Rattle.flat_laws.proofs.Growing.{Grows, SomeRefused, IsRefusal, grows_self, grows_on}
 use Rattle.flat_laws.proofs.Opening.{Keeps}
 use Rattle.flat_laws.proofs.Opened.{kept_module}
 use Rattle.flat_laws.proofs.Items.{AreListed}
 use Rattle.flat_laws.proofs.Ports.{port_on, module_ports}
-use Rattle.flat_laws.proofs.Parts.{AllTasks, TaskStands, FlatStands, Moves, left, times_left, left_more, tasks_on, tasks_more, step_moves, refusal_moves, one_moves, none_moves, taken_quiet, taken_moves, ahead_moves, chosen_moves}
+use Rattle.flat_laws.proofs.Parts.{AllTasks, TaskStands, FlatStands, Moves, left, times_left, left_more, tasks_on, tasks_more, step_moves, refusal_moves, one_moves, none_moves, taken_quiet}
+use Rattle.flat_laws.proofs.Parts.{taken_moves, ahead_moves, chosen_moves}
 use Rattle.flat_laws.proofs.Entering.{instance_moves, block_moves, inner_kept, turn_moves, unopened_kept, start_moves}
 
 moved : (modules : List Module) (task : Task) (flat : Flat) (tasks : List Task) (next : Flat) → Replaces modules task flat tasks next → FlatStands flat → TaskStands (length flat.signals) (length flat.places) task → Moves (λ k. left k task) flat tasks next

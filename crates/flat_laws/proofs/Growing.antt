@@ -1,17 +1,9 @@
 -- Signals that only become more and keep their bits, and the steps of a scope.
-use Rattle.std.proofs.Common.{◌≡◌, ◌⊎◌, inl, inr, ℕ, zero, suc, ◌+◌, ◌<◌, ◌≤◌, List, [], ◌∷◌, ◌++◌, length, Option, None, Some, sym, ap, ◌∙◌, subst, arith}
-use Rattle.std.specs.Prelude.{slice_get, slice_set, nat_eq, if◌then◌else◌}
-use Rattle.std.proofs.lemmas.List.{length_push, length-set}
-use Rattle.vlog_meaning.specs.declared.scope.Decl.{Decl}
+use Rattle.flat_laws.proofs.Common.{◌≡◌, ◌⊎◌, inl, inr, ℕ, zero, suc, ◌+◌, ◌<◌, ◌≤◌, List, [], ◌∷◌, ◌++◌, length, Option, None, Some, sym, ap, ◌∙◌, subst, arith, slice_get, slice_set, nat_eq}
+use Rattle.flat_laws.proofs.Common.{if◌then◌else◌, length_push, length-set, Decl, Step, VectorBits, Signal, What, IsDirected, HasDirection, AreSized, HasBits, NamesSignal, OwnsSignal}
 use Rattle.vlog_meaning.specs.declared.scope.Decl.TheVariants as d
-use Rattle.flat_scopes.specs.declared.opening.Step.{Step}
 use Rattle.flat_scopes.specs.declared.opening.Step.TheVariants as s
-use Rattle.flat_scopes.specs.declared.range.VectorBits.{VectorBits}
-use Rattle.flat_scopes.specs.declared.signal.Signal.{Signal}
-use Rattle.flat_scopes.specs.declared.signal.What.{What}
 use Rattle.flat_scopes.specs.declared.signal.What.TheVariants as w
-use Rattle.flat_laws.specs.Ports.{IsDirected, HasDirection}
-use Rattle.flat_laws.specs.Sound.{AreSized, HasBits, NamesSignal, OwnsSignal}
 use Rattle.flat_laws.proofs.Lists.{holds_more, holds_set}
 use Rattle.flat_laws.proofs.Sizes.{IsWithin}
 

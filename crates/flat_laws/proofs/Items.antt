@@ -1,31 +1,17 @@
 -- Items and parts of a design, where there are more signals and scopes; and what an instance lists itself.
-use Rattle.std.proofs.Common.{◌≡◌, ℕ, ◌+◌, ◌<◌, ◌≤◌, Bool, true, false, List, [], ◌∷◌, ◌++◌, length, Option, None, Some, refl, arith}
-use Rattle.std.specs.Prelude.{option_to_list, slice_get, if◌then◌else◌}
-use Rattle.std.specs.Option.{option_map}
-use Rattle.std.proofs.lemmas.Option.{slice_get_within}
-use Rattle.vlog_syntax.specs.declared.expr.Expr.{Expr}
-use Rattle.vlog_syntax.specs.declared.identifier.Identifier.{Identifier}
-use Rattle.vlog_syntax.specs.declared.item.Direction.{Direction}
+use Rattle.flat_laws.proofs.Common.{◌≡◌, ℕ, ◌+◌, ◌<◌, ◌≤◌, Bool, true, false, List, [], ◌∷◌, ◌++◌, length, Option, None, Some, refl, arith, option_to_list, slice_get, if◌then◌else◌, option_map}
+use Rattle.flat_laws.proofs.Common.{slice_get_within, Expr, Identifier, Direction, Placing, Port, Signal, What, Opened, FlatItem, value_faults, first_of, fault_item, name_item, own_faults, listed_of}
+use Rattle.flat_laws.proofs.Common.{wires_of, ItemStands, AllStand, declares, times_declared}
 use Rattle.vlog_syntax.specs.declared.item.Direction.TheVariants.{Input, Output}
 use Rattle.vlog_syntax.specs.Places.{first_token}
-use Rattle.flat_scopes.specs.declared.opening.Placing.{Placing}
-use Rattle.flat_scopes.specs.declared.signal.Port.{Port}
-use Rattle.flat_scopes.specs.declared.signal.Signal.{Signal}
-use Rattle.flat_scopes.specs.declared.signal.What.{What}
 use Rattle.flat_scopes.specs.declared.signal.What.TheVariants as w
-use Rattle.flat_scopes.specs.Openings.{Opened}
 use Rattle.flat_scopes.specs.Opens.{signal_port, port_at}
 use Rattle.flat_instances.specs.declared.error.ItemError.TheVariants.{PortMismatch}
 use Rattle.flat_instances.specs.declared.error.ParameterError.{ParameterError}
-use Rattle.flat_instances.specs.declared.item.FlatItem.{FlatItem}
 use Rattle.flat_instances.specs.declared.item.FlatItem.TheVariants as f
 use Rattle.flat_scopes.specs.declared.wire.Wire.{Wire}
 use Rattle.flat_scopes.specs.declared.wire.Wire.TheVariants.{To, Mismatch}
-use Rattle.flat_instances.specs.Gifts.{value_faults, first_of}
-use Rattle.flat_instances.specs.Instances.{fault_item, name_item, own_faults, listed_of}
-use Rattle.flat_scopes.specs.Wires.{wires_of}
 use Rattle.flat_instances.specs.Wires.{is_left, output_item, port_item, found_item, wire_item, wired, is_wired, open_item, open_found, unwired_item, unwired, connected}
-use Rattle.flat_laws.specs.Sound.{ItemStands, AllStand, declares, times_declared}
 
 -- Items.
 

@@ -1,43 +1,25 @@
 -- What the items of a scope and whole modules keep of it.
-use Rattle.std.proofs.Common.{◌≡◌, inr, ℕ, ◌+◌, true, List, [], ◌∷◌, ◌++◌, length, Option, None, Some, refl, sym, subst, arith}
-use Rattle.std.specs.Prelude.{is_some, if◌then◌else◌}
-use Rattle.vlog_syntax.specs.declared.identifier.Identifier.{Identifier}
-use Rattle.vlog_syntax.specs.declared.expr.Expr.{Expr}
-use Rattle.vlog_syntax.specs.declared.item.Item.{Item, out-Item}
+use Rattle.flat_laws.proofs.Common.{◌≡◌, inr, ℕ, ◌+◌, true, List, [], ◌∷◌, ◌++◌, length, Option, None, Some, refl, sym, subst, arith, is_some, if◌then◌else◌, Identifier, Expr, Item, out-Item}
+use Rattle.flat_laws.proofs.Common.{PlainItem, PortDeclaration, Ports, Named, Declarations, Module, Fault, Decl, least, const_error, Names, Sense, Head, Step, Signal, What, Opened, step, refuse}
+use Rattle.flat_laws.proofs.Common.{is_among, refused_type, type_of, port_names, bits_of_range, NamesSignal}
 use Rattle.vlog_syntax.specs.declared.item.Item.TheVariants as i
 use Rattle.vlog_syntax.specs.declared.item.ParameterKind.{ParameterKind}
 use Rattle.vlog_syntax.specs.declared.item.ParameterType.{ParameterType}
 use Rattle.vlog_syntax.specs.declared.item.ParameterType.TheVariants.{Vector, Integer}
 use Rattle.vlog_syntax.specs.declared.item.ParameterAssignment.{ParameterAssignment}
 use Rattle.vlog_syntax.specs.declared.item.ParameterDeclaration.{ParameterDeclaration}
-use Rattle.vlog_syntax.specs.declared.item.PlainItem.{PlainItem}
 use Rattle.vlog_syntax.specs.declared.item.PlainItem.TheVariants as p
-use Rattle.vlog_syntax.specs.declared.item.PortDeclaration.{PortDeclaration}
-use Rattle.vlog_syntax.specs.declared.item.Ports.{Ports}
-use Rattle.vlog_syntax.specs.declared.item.Ports.TheVariants.{Names as Named, Declarations}
-use Rattle.vlog_syntax.specs.declared.module.Module.{Module}
 use Rattle.vlog_meaning.specs.declared.fault.ConstError.{ConstError}
-use Rattle.vlog_meaning.specs.declared.fault.Fault.{Fault}
-use Rattle.vlog_meaning.specs.declared.scope.Decl.{Decl}
-use Rattle.vlog_meaning.specs.Answers.{least, const_error}
-use Rattle.vlog_meaning.specs.Scopes.{Names}
-use Rattle.vlog_meaning.specs.Senses.{Sense}
-use Rattle.flat_scopes.specs.declared.opening.Head.{Head}
-use Rattle.flat_scopes.specs.declared.opening.Step.{Step}
 use Rattle.flat_scopes.specs.declared.opening.Step.TheVariants as s
 use Rattle.flat_scopes.specs.declared.parameter.ParameterBits.{ParameterBits}
 use Rattle.flat_scopes.specs.declared.parameter.ParameterBits.TheVariants.{OfValue, OfRange}
 use Rattle.flat_scopes.specs.declared.refusal.Refusal.TheVariants as r
-use Rattle.flat_scopes.specs.declared.signal.Signal.{Signal}
-use Rattle.flat_scopes.specs.declared.signal.What.{What}
 use Rattle.flat_scopes.specs.declared.signal.What.TheVariants as w
-use Rattle.flat_scopes.specs.Openings.{Opened, step, refuse, is_among, refused_type, type_of, port_names}
 use Rattle.flat_scopes.specs.Insides.{block_names, first_taken}
-use Rattle.flat_scopes.specs.Opens.{declared, labels_of, body_labels, merged, construct, Opens, opened, open_plain, open_region, open_loop, open_if, open_block, open_null, port_at, all_parameters, header_names, all_ports, header, undeclared, footer, OpensModule}
+use Rattle.flat_scopes.specs.Opens.{declared, labels_of, body_labels, merged, construct, Opens, opened, open_plain, open_region, open_loop, open_if, open_block, open_null, port_at, all_parameters}
+use Rattle.flat_scopes.specs.Opens.{header_names, all_ports, header, undeclared, footer, OpensModule}
 use Rattle.flat_scopes.specs.Parameters.{parameter_faults}
-use Rattle.flat_scopes.specs.Ranges.{bits_of_range}
 use Rattle.flat_scopes.specs.Valued.{refused_bits, parameter_bits, given_for, value_sense, value_fault, declared_as, zero_as, constant_name, valued, parameter_name, parameter_names, parameters}
-use Rattle.flat_laws.specs.Sound.{NamesSignal}
 use Rattle.flat_laws.proofs.Lists.{either}
 use Rattle.flat_laws.proofs.Growing.{AllSteps, SomeRefused, times_listed, times_more, steps_more}
 use Rattle.flat_laws.proofs.Opening.{Keeps, kept_step, kept_refuse, kept_name, kept_genvars, kept_instances, kept_blocks, kept_range, kept_type, kept_ports, kept_all_data}

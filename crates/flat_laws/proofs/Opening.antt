@@ -1,39 +1,22 @@
 -- What each declaration keeps of a scope that is being opened: signals only become more and keep their bits, names are those of
 -- signals with the same bits, and each new signal is declared once.
-use Rattle.std.proofs.Common.{◌≡◌, ℕ, ◌+◌, ◌<◌, ◌≤◌, Bool, true, false, List, [], ◌∷◌, ◌++◌, length, Option, None, Some, Result, Ok, Err, refl, sym, ap, ◌∙◌, subst, arith, true≢false}
-use Rattle.std.specs.Prelude.{slice_get, slice_set, not, ◌&&◌, ◌||◌, is_some, if◌then◌else◌}
-use Rattle.std.specs.Str.{bytes_eq}
-use Rattle.std.proofs.lemmas.List.{length_push, length-set}
-use Rattle.std.proofs.lemmas.Slice.Eq.{bytes_eq-Decides}
-use Rattle.vlog_syntax.specs.declared.identifier.Identifier.{Identifier}
-use Rattle.vlog_syntax.specs.declared.expr.Expr.{Expr}
-use Rattle.vlog_syntax.specs.declared.item.Direction.{Direction}
-use Rattle.vlog_syntax.specs.declared.item.DataType.{DataType}
-use Rattle.vlog_syntax.specs.declared.item.DataType.TheVariants.{Wire, Reg, Integer}
-use Rattle.vlog_syntax.specs.declared.item.DeclaredName.{DeclaredName}
+use Rattle.flat_laws.proofs.Common.{◌≡◌, ℕ, ◌+◌, ◌<◌, ◌≤◌, Bool, true, false, List, [], ◌∷◌, ◌++◌, length, Option, None, Some, Result, Ok, Err, refl, sym, ap, ◌∙◌, subst, arith, true≢false, slice_get}
+use Rattle.flat_laws.proofs.Common.{slice_set, not, ◌&&◌, ◌||◌, is_some, if◌then◌else◌, bytes_eq, length_push, length-set, bytes_eq-Decides, Identifier, Expr, Direction, DataType, Wire, Reg, Integer}
+use Rattle.flat_laws.proofs.Common.{DeclaredName, Decl, Names, Head, Step, VectorBits, Refusal, Signal, What, Opened, step, refuse, own_name, plain_name, genvar_names, refused_range, refused_type}
+use Rattle.flat_laws.proofs.Common.{type_of, new_signal, same_signal, has_bits, again_port, again_data, is_among, port_found, port_name, data_name, variable_start, initial, port_names, data_names}
+use Rattle.flat_laws.proofs.Common.{bits_of_range, IsDirected, AreSized, HasBits, NamesSignal, OwnsSignal}
 use Rattle.vlog_syntax.specs.declared.item.Instance.{Instance}
 use Rattle.vlog_syntax.specs.declared.item.ParameterValues.{ParameterValues}
-use Rattle.vlog_meaning.specs.declared.scope.Decl.{Decl}
 use Rattle.vlog_meaning.specs.declared.scope.Decl.TheVariants as d
-use Rattle.vlog_meaning.specs.Scopes.{Names}
-use Rattle.flat_scopes.specs.declared.opening.Head.{Head}
-use Rattle.flat_scopes.specs.declared.opening.Step.{Step}
 use Rattle.flat_scopes.specs.declared.opening.Step.TheVariants as s
-use Rattle.flat_scopes.specs.declared.range.VectorBits.{VectorBits}
 use Rattle.flat_scopes.specs.declared.range.RangeError.{RangeError}
-use Rattle.flat_scopes.specs.declared.refusal.Refusal.{Refusal}
 use Rattle.flat_scopes.specs.declared.refusal.Refusal.TheVariants as r
-use Rattle.flat_scopes.specs.declared.signal.Signal.{Signal}
-use Rattle.flat_scopes.specs.declared.signal.What.{What}
 use Rattle.flat_scopes.specs.declared.signal.What.TheVariants as w
-use Rattle.flat_scopes.specs.Openings.{Opened, step, refuse, own_name, plain_name, genvar_names, refused_range, refused_type, type_of, new_signal, same_signal, has_bits, again_port, again_data, is_among, port_found, port_name, data_name, variable_start, initial, port_names, data_names}
 use Rattle.flat_scopes.specs.Insides.{inner_name, placing, placed, instances, block_names}
-use Rattle.flat_scopes.specs.Ranges.{bits_of_range}
-use Rattle.flat_laws.specs.Ports.{IsDirected}
-use Rattle.flat_laws.specs.Sound.{AreSized, HasBits, NamesSignal, OwnsSignal}
 use Rattle.flat_laws.proofs.Lists.{either, holds_last, below, here, below_more}
 use Rattle.flat_laws.proofs.Sizes.{type_within}
-use Rattle.flat_laws.proofs.Growing.{Grows, grows_on, grows_more, grows_set, sized_more, sized_set, named_on, owned_on, StepStands, AllSteps, listed, times_listed, SomeRefused, steps_on, steps_more, times_more, refused_more}
+use Rattle.flat_laws.proofs.Growing.{Grows, grows_on, grows_more, grows_set, sized_more, sized_set, named_on, owned_on, StepStands, AllSteps, listed, times_listed, SomeRefused, steps_on, steps_more}
+use Rattle.flat_laws.proofs.Growing.{times_more, refused_more}
 
 -- A scope that is being opened from another one on stands, and has what that has.
 pub record Keeps (start o : Opened) : Type 0 where

@@ -1,23 +1,13 @@
 -- What each part of a design keeps where it is replaced: the design so far stands, and so do the parts that are left.
-use Rattle.std.proofs.Common.{◌≡◌, ℕ, ◌+◌, ◌<◌, ◌≤◌, List, [], ◌∷◌, ◌++◌, length, Option, None, Some, Result, Ok, Err, refl, sym, ap, arith}
-use Rattle.std.specs.Prelude.{slice_get, ◌==◌}
-use Rattle.std.proofs.lemmas.List.{append-nil}
-use Rattle.vlog_syntax.specs.declared.identifier.Identifier.{Identifier}
-use Rattle.vlog_syntax.specs.declared.item.Item.{Item}
-use Rattle.vlog_syntax.specs.declared.item.PlainItem.{PlainItem}
+use Rattle.flat_laws.proofs.Common.{◌≡◌, ℕ, ◌+◌, ◌<◌, ◌≤◌, List, [], ◌∷◌, ◌++◌, length, Option, None, Some, Result, Ok, Err, refl, sym, ap, arith, slice_get, ◌==◌, append-nil, Identifier, Item}
+use Rattle.flat_laws.proofs.Common.{PlainItem, Step, ItemError, FlatItem, Task, Place, AreSized, PlaceStands, AllStand, times_declared}
 use Rattle.vlog_syntax.specs.declared.item.PlainItem.TheVariants as p
 use Rattle.vlog_syntax.specs.declared.stmt.Assignment.{Assignment}
-use Rattle.flat_scopes.specs.declared.opening.Step.{Step}
 use Rattle.flat_scopes.specs.declared.opening.Step.TheVariants as s
-use Rattle.flat_instances.specs.declared.error.ItemError.{ItemError}
 use Rattle.flat_instances.specs.declared.error.ItemError.TheVariants as err
-use Rattle.flat_instances.specs.declared.item.FlatItem.{FlatItem}
 use Rattle.flat_instances.specs.declared.item.FlatItem.TheVariants as f
-use Rattle.flat_items.specs.declared.task.Task.{Task}
 use Rattle.flat_items.specs.declared.task.Task.TheVariants as t
 use Rattle.flat_items.specs.Flattened.{Flat, add_all, tasks_of, assigned_items, plain_items, step_items, step_tasks, taken_tasks, is_passed, other_tasks, chosen_tasks}
-use Rattle.flat_instances.specs.Places.{Place}
-use Rattle.flat_laws.specs.Sound.{AreSized, PlaceStands, AllStand, times_declared}
 use Rattle.flat_laws.proofs.Lists.{either, below}
 use Rattle.flat_laws.proofs.Growing.{Grows, AllSteps, StepStands, listed, times_listed, grows_self, step_on}
 use Rattle.flat_laws.proofs.Items.{items_more, declared_more, AreListed, listed_stand, listed_none}

@@ -1,30 +1,12 @@
 -- Each name in the head of a module is a port of it, or something is refused.
-use Rattle.std.proofs.Common.{◌≡◌, ◌⊎◌, inl, inr, ℕ, Bool, true, false, List, [], ◌∷◌, ◌++◌, map, length, Option, None, Some, refl, sym, ap, ◌∙◌, subst, true≢false}
-use Rattle.std.specs.Prelude.{slice_get, not, ◌&&◌, ◌||◌, is_some, if◌then◌else◌}
-use Rattle.std.specs.Option.{option_map}
-use Rattle.std.specs.Str.{bytes_eq}
-use Rattle.std.proofs.lemmas.Slice.Eq.{bytes_eq-Decides}
-use Rattle.vlog_syntax.specs.declared.identifier.Identifier.{Identifier}
-use Rattle.vlog_syntax.specs.declared.item.DataType.{DataType}
-use Rattle.vlog_syntax.specs.declared.item.DeclaredName.{DeclaredName}
-use Rattle.vlog_syntax.specs.declared.item.Direction.{Direction}
-use Rattle.vlog_syntax.specs.declared.item.PortDeclaration.{PortDeclaration}
-use Rattle.vlog_syntax.specs.declared.item.Ports.{Ports}
-use Rattle.vlog_syntax.specs.declared.item.Ports.TheVariants.{Names as Named, Declarations}
-use Rattle.vlog_syntax.specs.declared.module.Module.{Module}
-use Rattle.vlog_meaning.specs.Scopes.{Names}
-use Rattle.flat_scopes.specs.declared.opening.Head.{Head}
+use Rattle.flat_laws.proofs.Common.{◌≡◌, ◌⊎◌, inl, inr, ℕ, Bool, true, false, List, [], ◌∷◌, ◌++◌, map, length, Option, None, Some, refl, sym, ap, ◌∙◌, subst, true≢false, slice_get, not, ◌&&◌, ◌||◌}
+use Rattle.flat_laws.proofs.Common.{is_some, if◌then◌else◌, option_map, bytes_eq, bytes_eq-Decides, Identifier, DataType, DeclaredName, Direction, PortDeclaration, Ports, Named, Declarations, Module}
+use Rattle.flat_laws.proofs.Common.{Names, Head, Refusal, Port, Signal, What, Opened, refuse, refused_type, type_of, has_bits, new_signal, same_signal, again_port, is_among, port_found, port_name}
+use Rattle.flat_laws.proofs.Common.{initial, port_names, name_in, declared_ports, ports_of, IsDirected, HasDirection, IsPort, ArePorts}
 use Rattle.flat_scopes.specs.declared.opening.Step.TheVariants as s
-use Rattle.flat_scopes.specs.declared.refusal.Refusal.{Refusal}
 use Rattle.flat_scopes.specs.declared.refusal.Refusal.TheVariants as r
-use Rattle.flat_scopes.specs.declared.signal.Port.{Port}
-use Rattle.flat_scopes.specs.declared.signal.Signal.{Signal}
-use Rattle.flat_scopes.specs.declared.signal.What.{What}
 use Rattle.flat_scopes.specs.declared.signal.What.TheVariants as w
-use Rattle.flat_scopes.specs.Openings.{Opened, refuse, refused_type, type_of, has_bits, new_signal, same_signal, again_port, is_among, port_found, port_name, initial, port_names}
 use Rattle.flat_scopes.specs.Opens.{Opens, signal_port, port_at, all_parameters, all_ports, header, undeclared, footer, OpensModule}
-use Rattle.flat_scopes.specs.Wires.{name_in, declared_ports, ports_of}
-use Rattle.flat_laws.specs.Ports.{IsDirected, HasDirection, IsPort, ArePorts}
 use Rattle.flat_laws.proofs.Lists.{either, holds_last, holds_there}
 use Rattle.flat_laws.proofs.Growing.{Grows, SomeRefused, grows_self, refused_last, refused_more}
 use Rattle.flat_laws.proofs.Opening.{Keeps, kept_type, kept_port, kept_initial, kept_ports}

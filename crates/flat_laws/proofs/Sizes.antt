@@ -1,20 +1,11 @@
 -- Declared types have from 1 to 128 bits.
-use Rattle.std.proofs.Common.{◌≡◌, ◌+◌, ◌-◌, ◌≤◌, Bool, true, false, ℤ, pos, negsuc, ◌-ℤ◌, Option, None, Some, Ok, Err, refl, arith}
-use Rattle.std.specs.Prelude.{int_lt, ◌||◌, ◌^◌, if◌then◌else◌}
+use Rattle.flat_laws.proofs.Common.{◌≡◌, ◌+◌, ◌-◌, ◌≤◌, Bool, true, false, ℤ, pos, negsuc, ◌-ℤ◌, Option, None, Some, Ok, Err, refl, arith, int_lt, ◌||◌, ◌^◌, if◌then◌else◌, DataType, Wire, Reg}
+use Rattle.flat_laws.proofs.Common.{Integer, Fault, least, Names, sense, constant_faults, constant_integer, VectorBits, bits_or_one, one_bit, type_of, bits_between, bits_of_bounds, bits_of_range}
 use Rattle.std.proofs.lemmas.Bool.Decides.{nat_tests}
 use Rattle.mcy_base.specs.declared.span.Span.{Span}
-use Rattle.vlog_syntax.specs.declared.item.DataType.{DataType}
-use Rattle.vlog_syntax.specs.declared.item.DataType.TheVariants.{Wire, Reg, Integer}
 use Rattle.vlog_syntax.specs.declared.item.Range.{Range}
-use Rattle.vlog_meaning.specs.declared.fault.Fault.{Fault}
-use Rattle.vlog_meaning.specs.Answers.{least}
 use Rattle.vlog_meaning.specs.Integers.{natural}
-use Rattle.vlog_meaning.specs.Scopes.{Names}
-use Rattle.vlog_meaning.specs.Senses.{sense, constant_faults, constant_integer}
-use Rattle.flat_scopes.specs.declared.range.VectorBits.{VectorBits}
 use Rattle.flat_scopes.specs.declared.range.RangeError.TheVariants.{TooWide, RangeForm}
-use Rattle.flat_scopes.specs.Openings.{bits_or_one, one_bit, type_of}
-use Rattle.flat_scopes.specs.Ranges.{bits_between, bits_of_bounds, bits_of_range}
 
 abbrev pub IsWithin : VectorBits → Type 0
 IsWithin bits = (1 ≤ bits.width) × (bits.width ≤ 128)

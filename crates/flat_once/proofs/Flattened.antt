@@ -1,12 +1,8 @@
 -- What modules are flattened to is one design.
-use Rattle.std.proofs.Common.{◌≡◌, ℕ, List, [], ◌∷◌, ◌++◌, None, Some, refl, sym, ap, ◌∙◌, subst}
-use Rattle.std.specs.Prelude.{slice_get}
+use Rattle.flat_once.proofs.Common.{◌≡◌, ℕ, List, [], ◌∷◌, ◌++◌, None, Some, refl, sym, ap, ◌∙◌, subst, slice_get, Module, Opened, unopened, Task}
 use Rattle.std.proofs.lemmas.Option.{none-some}
-use Rattle.vlog_syntax.specs.declared.module.Module.{Module}
-use Rattle.flat_scopes.specs.Openings.{Opened, unopened}
 use Rattle.flat_scopes.specs.Opens.{OpensModule}
 use Rattle.flat_instances.specs.Instances.{no_names}
-use Rattle.flat_items.specs.declared.task.Task.{Task}
 use Rattle.flat_items.specs.Flattened.{Flat, entered, module_at, tasks_of}
 use Rattle.flat_items.specs.Replacing.{Replaces, Flattens, flattened, replaces, repeated, top_head, FlattensModule}
 use Rattle.flat_once.specs.Laws.{FlattensOnce, HasOneTop, NoTopFlattens}

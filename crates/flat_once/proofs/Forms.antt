@@ -1,10 +1,7 @@
 -- The forms of items.
-use Rattle.std.proofs.Common.{◌≡◌, List, Option, sym, ap, ◌∙◌}
+use Rattle.flat_once.proofs.Common.{◌≡◌, List, Option, sym, ap, ◌∙◌, Identifier, GenerateLoop, Item, out-Item, out-roll-Item}
 use Rattle.mcy_base.specs.declared.span.Span.{Span}
 use Rattle.vlog_syntax.specs.declared.expr.Expr.{Expr}
-use Rattle.vlog_syntax.specs.declared.identifier.Identifier.{Identifier}
-use Rattle.vlog_syntax.specs.declared.item.GenerateLoop.{GenerateLoop}
-use Rattle.vlog_syntax.specs.declared.item.Item.{Item, out-Item, out-roll-Item}
 use Rattle.vlog_syntax.specs.declared.item.Item.TheVariants as i
 use Rattle.vlog_syntax.specs.declared.item.Item.TheOpen as t
 use Rattle.vlog_syntax.specs.declared.item.PlainItem.{PlainItem}

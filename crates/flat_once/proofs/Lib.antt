@@ -1,3 +1,4 @@
+mod Common
 pub mod Forms
 pub mod Scopes
 pub mod Names

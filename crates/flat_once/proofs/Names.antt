@@ -1,10 +1,6 @@
 -- The name of a block is one, and so is what a name stands for in a scope.
-use Rattle.std.proofs.Common.{◌≡◌, ℕ, true≢false, List, ◌++◌, Option, None, Some, refl, sym, ◌∙◌, subst}
-use Rattle.std.specs.Prelude.{codes, decimal, IsSome, slice_get}
-use Rattle.vlog_syntax.specs.declared.identifier.Identifier.{Identifier}
-use Rattle.flat_scopes.specs.declared.signal.What.{What}
+use Rattle.flat_once.proofs.Common.{◌≡◌, ℕ, true≢false, List, ◌++◌, Option, None, Some, refl, sym, ◌∙◌, subst, codes, decimal, IsSome, slice_get, Identifier, What, Place}
 use Rattle.flat_scopes.specs.Owns.{Own}
-use Rattle.flat_instances.specs.Places.{Place}
 use Rattle.flat_items.specs.Flattened.{IsFree, free, taken, IsBlockName, labelled, unlabelled, Sees, here, outside, nowhere}
 
 -- Blocks.

@@ -1,19 +1,10 @@
 -- What instances, blocks and turns are replaced by is one.
-use Rattle.std.proofs.Common.{◌≡◌, ℕ, List, [], ◌∷◌, ◌++◌, length, Option, None, Some, sym, ap, ◌∙◌, subst}
-use Rattle.std.specs.Prelude.{slice_get}
-use Rattle.vlog_syntax.specs.declared.item.Item.{Item}
-use Rattle.vlog_syntax.specs.declared.module.Module.{Module}
-use Rattle.flat_scopes.specs.declared.opening.Placing.{Placing}
+use Rattle.flat_once.proofs.Common.{◌≡◌, ℕ, List, [], ◌∷◌, ◌++◌, length, Option, None, Some, sym, ap, ◌∙◌, subst, slice_get, Item, Module, Placing, What, Opened, unopened, Place, Task, Turn}
 use Rattle.flat_scopes.specs.declared.signal.Signal.{Signal}
-use Rattle.flat_scopes.specs.declared.signal.What.{What}
-use Rattle.flat_scopes.specs.Openings.{Opened, unopened}
 use Rattle.flat_instances.specs.declared.item.FlatItem.{FlatItem}
 use Rattle.flat_instances.specs.Gifts.{parameters_of, gift_of}
 use Rattle.flat_instances.specs.Instances.{inner_prefix, no_names, head_of, listed_of, OpensInstance}
-use Rattle.flat_instances.specs.Places.{Place}
 use Rattle.flat_scopes.specs.Wires.{ports_of}
-use Rattle.flat_items.specs.declared.task.Task.{Task}
-use Rattle.flat_items.specs.declared.task.Turn.{Turn}
 use Rattle.flat_items.specs.Flattened.{Flat, add_all, block_head, block_items, entered, integer_in, taken_tasks, tasks_of, OpensBlock}
 use Rattle.flat_items.specs.Replacing.{PlacesInstance, TurnsOnce, next_turn, turn_name}
 use Rattle.flat_once.proofs.Names.{sees_once}

@@ -1,27 +1,18 @@
 -- What stands in the place of a part is one.
-use Rattle.std.proofs.Common.{◌≡◌, ℕ, true≢false, Bool, true, false, List, [], ◌∷◌, ◌++◌, Option, None, Some, Result, Ok, Err, refl, sym, ap, ◌∙◌, subst}
-use Rattle.std.specs.Prelude.{slice_get}
-use Rattle.vlog_syntax.specs.declared.identifier.Identifier.{Identifier}
-use Rattle.vlog_syntax.specs.declared.item.GenerateLoop.{GenerateLoop}
-use Rattle.vlog_syntax.specs.declared.item.Item.{Item, out-Item}
+use Rattle.flat_once.proofs.Common.{◌≡◌, ℕ, true≢false, Bool, true, false, List, [], ◌∷◌, ◌++◌, Option, None, Some, Result, Ok, Err, refl, sym, ap, ◌∙◌, subst, slice_get, Identifier, GenerateLoop}
+use Rattle.flat_once.proofs.Common.{Item, out-Item, Item-F, Module, Placing, What, unopened, Place, Task, Turn}
 use Rattle.vlog_syntax.specs.declared.item.Item.TheVariants as i
 use Rattle.vlog_syntax.specs.declared.item.Item.TheOpen as o
-use Rattle.vlog_syntax.specs.declared.item.Item.TheOpen.{Item-F}
-use Rattle.vlog_syntax.specs.declared.module.Module.{Module}
-use Rattle.flat_scopes.specs.declared.opening.Placing.{Placing}
-use Rattle.flat_scopes.specs.declared.signal.What.{What}
-use Rattle.flat_scopes.specs.Openings.{unopened}
 use Rattle.flat_instances.specs.declared.error.ItemError.{ItemError}
 use Rattle.flat_instances.specs.declared.error.ItemError.TheVariants.{Scopes}
 use Rattle.flat_instances.specs.declared.item.FlatItem.TheVariants as f
-use Rattle.flat_instances.specs.Places.{Place}
-use Rattle.flat_items.specs.declared.task.Task.{Task}
 use Rattle.flat_items.specs.declared.task.Task.TheVariants as t
-use Rattle.flat_items.specs.declared.task.Turn.{Turn}
 use Rattle.flat_items.specs.declared.turn.Outcome.{Outcome}
 use Rattle.flat_items.specs.declared.turn.Outcome.TheVariants.{Goes, Ends, Refused}
-use Rattle.flat_items.specs.Flattened.{Flat, add_all, is_full, step_items, step_tasks, module_at, placed_in, condition_in, integer_in, taken_tasks, chosen_tasks, label_of, IsBlockName, OpensBlock, Sees, genvar_fault, turn_start}
-use Rattle.flat_items.specs.Replacing.{PlacesInstance, TurnsOnce, Replaces, step, refused, not_placed, placed, condition, arm_null, arm_condition, arm_full, arm_block, bad_genvar, bad_start, loop, turn_ended, bad_turn, turn, no_construct, first_turn, is_block_form, is_construct_form, outcome}
+use Rattle.flat_items.specs.Flattened.{Flat, add_all, is_full, step_items, step_tasks, module_at, placed_in, condition_in, integer_in, taken_tasks, chosen_tasks, label_of, IsBlockName, OpensBlock}
+use Rattle.flat_items.specs.Flattened.{Sees, genvar_fault, turn_start}
+use Rattle.flat_items.specs.Replacing.{PlacesInstance, TurnsOnce, Replaces, step, refused, not_placed, placed, condition, arm_null, arm_condition, arm_full, arm_block, bad_genvar, bad_start, loop}
+use Rattle.flat_items.specs.Replacing.{turn_ended, bad_turn, turn, no_construct, first_turn, is_block_form, is_construct_form, outcome}
 use Rattle.flat_once.proofs.Forms.{out-loop, out-if, out-null}
 use Rattle.flat_once.proofs.Names.{block_name_once, sees_once}
 use Rattle.flat_once.proofs.Parts.{AreSame, one_there, block_once, places_once, turns_once}

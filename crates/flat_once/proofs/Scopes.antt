@@ -1,13 +1,9 @@
 -- The items of a scope are opened in one way, and so is a module.
-use Rattle.std.proofs.Common.{◌≡◌, List, [], ◌∷◌, refl, sym, ap, ◌∙◌, subst}
-use Rattle.vlog_syntax.specs.declared.item.Item.{Item, out-Item}
+use Rattle.flat_once.proofs.Common.{◌≡◌, List, [], ◌∷◌, refl, sym, ap, ◌∙◌, subst, Item, out-Item, Item-F, Module, Opened}
 use Rattle.vlog_syntax.specs.declared.item.Item.TheVariants as i
 use Rattle.vlog_syntax.specs.declared.item.Item.TheOpen as t
-use Rattle.vlog_syntax.specs.declared.item.Item.TheOpen.{Item-F}
-use Rattle.vlog_syntax.specs.declared.module.Module.{Module}
 use Rattle.vlog_meaning.specs.Scopes.{Names}
 use Rattle.flat_scopes.specs.declared.opening.Head.{Head}
-use Rattle.flat_scopes.specs.Openings.{Opened}
 use Rattle.flat_scopes.specs.Opens.{declared, construct, labels_of, body_labels, merged, Opens, opened, open_plain, open_region, open_loop, open_if, open_block, open_null, footer, OpensModule}
 use Rattle.flat_once.proofs.Forms.{out-plain, out-region, out-loop, out-if, out-block, out-null}
 

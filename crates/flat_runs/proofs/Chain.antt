@@ -1,14 +1,6 @@
 -- Items that are built one after the other: one step and the rest are the whole.
-use Rattle.std.proofs.Common.{◌≡◌, ◌⊎◌, ℕ, ◌<◌, ◌≤◌, List, [], ◌∷◌, ◌++◌, length, refl, sym, ◌∙◌, ap, subst, inl, inr, arith, append_assoc}
-use Rattle.std.proofs.lemmas.List.{append-nil}
-use Rattle.netlist_core.specs.declared.bit.Bit.{Bit}
-use Rattle.netlist_core.specs.declared.port.Register.{Register}
-use Rattle.netlist_core.specs.Runs.{Nets}
-use Rattle.vlog_meaning.specs.Scopes.{Store}
-use Rattle.net_builder.specs.Building.{Building, RunsIn, signal, store}
-use Rattle.flat_runs.specs.Meanings.{Meaning, AllSay, Taken, leaves, all_leave, SomeWrites}
-use Rattle.flat_runs.specs.Adding.{IsWritten, Extended, Take, AddsItem, AddsItems}
-use Rattle.flat_runs.specs.Laws.{ItemFollows}
+use Rattle.flat_runs.proofs.Common.{◌≡◌, ◌⊎◌, ℕ, ◌<◌, ◌≤◌, List, [], ◌∷◌, ◌++◌, length, refl, sym, ◌∙◌, ap, subst, inl, inr, arith, append_assoc, append-nil, Bit, Register, Nets, Store, Building}
+use Rattle.flat_runs.proofs.Common.{RunsIn, signal, store, Meaning, AllSay, Taken, leaves, all_leave, SomeWrites, IsWritten, Extended, Take, AddsItem, AddsItems, ItemFollows}
 use Rattle.flat_runs.proofs.Signals.{bits_in, store_in, AreBelow, store_same}
 
 -- What all items do to the runs of a builder.

@@ -1,21 +1,9 @@
 -- A combinational process is the assignments of what it leaves.
-use Rattle.std.proofs.Common.{◌≡◌, ℕ, zero, suc, ◌+◌, ◌/◌, ◌%◌, ◌*◌, ◌^◌, ◌<◌, ◌≤◌, List, [], ◌∷◌, ◌++◌, length, None, Some, Option, refl, sym, ◌∙◌, ap, subst, inl, inr, arith, append_assoc}
-use Rattle.std.specs.List.{Contains}
-use Rattle.std.specs.Int.{bit_at}
-use Rattle.std.proofs.lemmas.List.{append-nil}
-use Rattle.std.proofs.lemmas.List.Elements.{Contains-append_cases}
-use Rattle.std.proofs.lemmas.Nat.Bits.{bit_at_lowest, bit_at-suc}
+use Rattle.flat_runs.proofs.Common.{◌≡◌, ℕ, zero, suc, ◌+◌, ◌/◌, ◌%◌, ◌*◌, ◌^◌, ◌<◌, ◌≤◌, List, [], ◌∷◌, ◌++◌, length, None, Some, Option, refl, sym, ◌∙◌, ap, subst, inl, inr, arith, append_assoc}
+use Rattle.flat_runs.proofs.Common.{Contains, bit_at, append-nil, Contains-append_cases, bit_at_lowest, bit_at-suc, Bit, Nets, Store, Joint, Building, signal, store, Place, Meaning, Assign, LeftIs}
+use Rattle.flat_runs.proofs.Common.{AllSay, SomeWrites, NoneTwice, NamesOnce, HasOwnNets, IsBit, Extends, AddsItem, with_joints, AreJoints, places_from, whole, AllMean, AllJoin, CombinationalAdd}
+use Rattle.flat_runs.proofs.Common.{has_first, has_more, has_none, has_cases}
 use Rattle.std.proofs.Math.Nat.{pow-suc}
-use Rattle.netlist_core.specs.declared.bit.Bit.{Bit}
-use Rattle.netlist_core.specs.Runs.{Nets}
-use Rattle.vlog_meaning.specs.Scopes.{Store}
-use Rattle.net_builder.specs.declared.builder.Joint.{Joint}
-use Rattle.net_builder.specs.Building.{Building, signal, store}
-use Rattle.flat_runs.specs.Meanings.{Place, Meaning, Assign, LeftIs, AllSay, SomeWrites, NoneTwice, NamesOnce}
-use Rattle.flat_runs.specs.Adding.{HasOwnNets, IsBit, Extends, AddsItem}
-use Rattle.flat_runs.specs.Parts.{with_joints, AreJoints, places_from, whole, AllMean, AllJoin}
-use Rattle.flat_runs.specs.Laws.{CombinationalAdd}
-use Rattle.flat_runs.proofs.Lists.{contains_first, contains_more, contains_none, contains_cases}
 use Rattle.flat_runs.proofs.Signals.{bits_in, store_in, store_fits, are_below, are_apart, own_stays}
 use Rattle.flat_runs.proofs.Chain.{Whole, nothing, one_more}
 use Rattle.flat_runs.proofs.Joining.{assigns_add, place_of, joined_once, runs_without, bit_same}
@@ -45,8 +33,8 @@ bits_left s k i (suc n) v h = (
 )
 
 place_in : (k i n k' i' : ℕ) → Contains (places_from k i n) (Some (record { signal = k'; bit = i' })) → k ≡ k'
-place_in k i zero k' i' has = absurd (contains_none (Some (record { signal = k'; bit = i' })) has)
-place_in k i (suc n) k' i' has = elim (contains_cases (places_from k (suc i) n) (Some (record { signal = k; bit = i })) (Some (record { signal = k'; bit = i' })) has) [
+place_in k i zero k' i' has = absurd (has_none (Some (record { signal = k'; bit = i' })) has)
+place_in k i (suc n) k' i' has = elim (has_cases (places_from k (suc i) n) (Some (record { signal = k; bit = i })) (Some (record { signal = k'; bit = i' })) has) [
   | inl same ↦ let is : record { signal = k; bit = i } ≡ record { signal = k'; bit = i' } = cc in ap (λ (p : Place). p.signal) is
   | inr later ↦ place_in k (suc i) n k' i' later
 ]
@@ -56,11 +44,11 @@ place_at k i zero j less = absurd (omega arith)
 place_at k i (suc n) zero less =
     let e : i ≡ i + 0 = omega arith in
     let P : ℕ → Type 0 = λ (x : ℕ). Contains (places_from k i (suc n)) (Some (record { signal = k; bit = x })) in
-    subst P e (contains_first (places_from k (suc i) n) (Some (record { signal = k; bit = i })))
+    subst P e (has_first (places_from k (suc i) n) (Some (record { signal = k; bit = i })))
 place_at k i (suc n) (suc j) less =
     let e : suc i + j ≡ i + suc j = omega arith in
     let P : ℕ → Type 0 = λ (x : ℕ). Contains (places_from k i (suc n)) (Some (record { signal = k; bit = x })) in
-    subst P e (contains_more (places_from k (suc i) n) (Some (record { signal = k; bit = i })) (Some (record { signal = k; bit = suc i + j })) (place_at k (suc i) n j (omega arith)))
+    subst P e (has_more (places_from k (suc i) n) (Some (record { signal = k; bit = i })) (Some (record { signal = k; bit = suc i + j })) (place_at k (suc i) n j (omega arith)))
 
 -- The assignments of what a process leaves to its variables.
 
@@ -143,31 +131,31 @@ join_all b (k ∷ ks) (x ∷ bits) joints effect own mean join =
 -- What the assignments say is what the process says.
 
 said_value : (signals : List (List Bit)) (ks : List ℕ) (effect : Store → Store) (s : Store) → ((k : ℕ) → s k < 2 ^ length (bits_in signals k)) → ((k : ℕ) → Contains ks k → effect s k < 2 ^ length (bits_in signals k)) → AllSay (assigns signals ks effect) s → (k : ℕ) → Contains ks k → effect s k ≡ s k
-said_value signals [] effect s small fits say k has = absurd (contains_none k has)
-said_value signals (j ∷ ks) effect s small fits say k has = elim (contains_cases ks j k has) [
+said_value signals [] effect s small fits say k has = absurd (has_none k has)
+said_value signals (j ∷ ks) effect s small fits say k has = elim (has_cases ks j k has) [
   | inl same ↦
       let w : ℕ = length (bits_in signals j) in
       let bits : (i : ℕ) → i < w → bit_at (s j) i ≡ bit_at (effect s j) i = λ i less. (let e : i ≡ 0 + i = omega arith in ap (bit_at (s j)) e ∙ left_bits s j 0 w (effect s j) say.0 i less) in
       let P : ℕ → Type 0 = λ (x : ℕ). effect s x ≡ s x in
-      subst P same (sym (same_bits w (s j) (effect s j) (small j) (fits j (contains_first ks j)) bits))
-  | inr later ↦ said_value signals ks effect s small (λ x within. fits x (contains_more ks j x within)) say.1 k later
+      subst P same (sym (same_bits w (s j) (effect s j) (small j) (fits j (has_first ks j)) bits))
+  | inr later ↦ said_value signals ks effect s small (λ x within. fits x (has_more ks j x within)) say.1 k later
 ]
 
 value_said : (signals : List (List Bit)) (ks : List ℕ) (effect : Store → Store) (s : Store) → ((k : ℕ) → Contains ks k → effect s k ≡ s k) → AllSay (assigns signals ks effect) s
 value_said signals [] effect s h = tt
 value_said signals (k ∷ ks) effect s h = (
-  bits_left s k 0 (length (bits_in signals k)) (effect s k) (λ j less. (let e : 0 + j ≡ j = omega arith in ap (bit_at (s k)) e ∙ ap (λ (v : ℕ). bit_at v j) (sym (h k (contains_first ks k))))),
-  value_said signals ks effect s (λ x within. h x (contains_more ks k x within)),
+  bits_left s k 0 (length (bits_in signals k)) (effect s k) (λ j less. (let e : 0 + j ≡ j = omega arith in ap (bit_at (s k)) e ∙ ap (λ (v : ℕ). bit_at v j) (sym (h k (has_first ks k))))),
+  value_said signals ks effect s (λ x within. h x (has_more ks k x within)),
 )
 
 some_write : (signals : List (List Bit)) (ks : List ℕ) (effect : Store → Store) (k i : ℕ) → SomeWrites (assigns signals ks effect) k i → Contains ks k
 some_write signals [] effect k i some = absurd some
-some_write signals (j ∷ ks) effect k i (inl here) = subst (λ (x : ℕ). Contains (j ∷ ks) x) (place_in j 0 (length (bits_in signals j)) k i here) (contains_first ks j)
-some_write signals (j ∷ ks) effect k i (inr more) = contains_more ks j k (some_write signals ks effect k i more)
+some_write signals (j ∷ ks) effect k i (inl here) = subst (λ (x : ℕ). Contains (j ∷ ks) x) (place_in j 0 (length (bits_in signals j)) k i here) (has_first ks j)
+some_write signals (j ∷ ks) effect k i (inr more) = has_more ks j k (some_write signals ks effect k i more)
 
 write_some : (signals : List (List Bit)) (ks : List ℕ) (effect : Store → Store) (k i : ℕ) → i < length (bits_in signals k) → Contains ks k → SomeWrites (assigns signals ks effect) k i
-write_some signals [] effect k i inside has = absurd (contains_none k has)
-write_some signals (j ∷ ks) effect k i inside has = elim (contains_cases ks j k has) [
+write_some signals [] effect k i inside has = absurd (has_none k has)
+write_some signals (j ∷ ks) effect k i inside has = elim (has_cases ks j k has) [
   | inl same ↦
       let e : 0 + i ≡ i = omega arith in
       let P : ℕ → Type 0 = λ (x : ℕ). Contains (places_from k 0 (length (bits_in signals k))) (Some (record { signal = k; bit = x })) in
@@ -189,31 +177,31 @@ process_whole old mid variables effect bits joints own e mean join =
 
 -- Joints of variables.
 
-places_apart : (k i n : ℕ) → NamesOnce (places_from k i n)
+pub places_apart : (k i n : ℕ) → NamesOnce (places_from k i n)
 places_apart k i zero = tt
 places_apart k i (suc n) = ((λ has. omega (arith, place_after k (suc i) n k i has)), places_apart k (suc i) n)
   where
     place_after : (k i n k' i' : ℕ) → Contains (places_from k i n) (Some (record { signal = k'; bit = i' })) → i ≤ i'
-    place_after k i zero k' i' has = absurd (contains_none (Some (record { signal = k'; bit = i' })) has)
-    place_after k i (suc n) k' i' has = elim (contains_cases (places_from k (suc i) n) (Some (record { signal = k; bit = i })) (Some (record { signal = k'; bit = i' })) has) [
+    place_after k i zero k' i' has = absurd (has_none (Some (record { signal = k'; bit = i' })) has)
+    place_after k i (suc n) k' i' has = elim (has_cases (places_from k (suc i) n) (Some (record { signal = k; bit = i })) (Some (record { signal = k'; bit = i' })) has) [
       | inl same ↦ (let is : record { signal = k; bit = i } ≡ record { signal = k'; bit = i' } = cc in let bit : i ≡ i' = ap (λ (p : Place). p.bit) is in omega arith)
       | inr later ↦ omega (arith, place_after k (suc i) n k' i' later)
     ]
 
 -- a joint of a variable is that of one of its bits
 variable_joint : (b : Building) (ks : List ℕ) (bits : List (List Bit)) (joints : List Joint) → AllJoin b ks bits joints → (j : Joint) → Contains joints j → (k : ℕ) × (i : ℕ) × IsBit b k i j.net × Contains ks k
-variable_joint b [] bits joints join j has = absurd (contains_none j (subst (λ (js : List Joint). Contains js j) join has))
+variable_joint b [] bits joints join j has = absurd (has_none j (subst (λ (js : List Joint). Contains js j) join has))
 variable_joint b (k ∷ ks) [] joints join j has = absurd join
 variable_joint b (k ∷ ks) (x ∷ bits) joints join j has = elim (Contains-append_cases join.0 join.1 j (subst (λ (js : List Joint). Contains js j) join.2 has)) [
   | inl first ↦
       let r = place_of b (whole b k) x join.0 join.3 j first in
       let same : k ≡ r.0.signal = place_in k 0 (length (signal b k)) r.0.signal r.0.bit r.1 in
-      (r.0.signal, r.0.bit, r.2, subst (λ (n : ℕ). Contains (k ∷ ks) n) same (contains_first ks k))
-  | inr rest ↦ let r = variable_joint b ks bits join.1 join.4 j rest in (r.0, r.1, r.2, contains_more ks k r.0 r.3)
+      (r.0.signal, r.0.bit, r.2, subst (λ (n : ℕ). Contains (k ∷ ks) n) same (has_first ks k))
+  | inr rest ↦ let r = variable_joint b ks bits join.1 join.4 j rest in (r.0, r.1, r.2, has_more ks k r.0 r.3)
 ]
 
 variables_once : (b : Building) (ks : List ℕ) (bits : List (List Bit)) (joints : List Joint) → HasOwnNets b → AllJoin b ks bits joints → NoneTwice ks → (n : ℕ) (x y : Bit) → Contains joints (record { net = n; bit = x }) → Contains joints (record { net = n; bit = y }) → x ≡ y
-variables_once b [] bits joints own join once n x y has_x has_y = absurd (contains_none (record { net = n; bit = x }) (subst (λ (js : List Joint). Contains js (record { net = n; bit = x })) join has_x))
+variables_once b [] bits joints own join once n x y has_x has_y = absurd (has_none (record { net = n; bit = x }) (subst (λ (js : List Joint). Contains js (record { net = n; bit = x })) join has_x))
 variables_once b (k ∷ ks) [] joints own join once n x y has_x has_y = absurd join
 variables_once b (k ∷ ks) (z ∷ bits) joints own join once n x y has_x has_y =
     elim (Contains-append_cases join.0 join.1 (record { net = n; bit = x }) (subst (λ (js : List Joint). Contains js (record { net = n; bit = x })) join.2 has_x)) [
@@ -253,7 +241,7 @@ combinational_add old mid variables effect bits joints own settled e mean join =
       takes = λ nets runs. tt;
       written = λ k i inside written. elim (w.written k i inside written) [
         | inl before ↦ inl before
-        | inr some ↦ elim some [ inl none ↦ absurd (contains_none (Some (record { signal = k; bit = i })) none) | inr here ↦ inr (some_write old.signals variables effect k i here) ]
+        | inr some ↦ elim some [ inl none ↦ absurd (has_none (Some (record { signal = k; bit = i })) none) | inr here ↦ inr (some_write old.signals variables effect k i here) ]
       ];
       writes = λ k i inside written. w.writes k i inside (elim written [ inl before ↦ inl before | inr here ↦ inr (inr (write_some old.signals variables effect k i inside here)) ]);
       stores = refl;

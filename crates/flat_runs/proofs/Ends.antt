@@ -1,29 +1,14 @@
 -- Where the nets of a builder lead that is finished, and its registers.
-use Rattle.std.proofs.Common.{◌≡◌, ◌≢◌, ◌⊎◌, ℕ, zero, suc, ◌+◌, ◌/◌, ◌%◌, ◌<◌, ◌≤◌, Bool, true, false, ◌||◌, List, [], ◌∷◌, map, length, nat_eq, slice_get, Option, Some, None, refl, sym, ◌∙◌, ap, subst, inl, inr, arith}
-use Rattle.std.specs.Prelude.{slice_index_or}
-use Rattle.std.specs.List.{Contains}
-use Rattle.std.specs.Int.{bit_at}
-use Rattle.std.proofs.lemmas.Bool.{false≢true, or_cases, or_left, or_right}
-use Rattle.std.proofs.lemmas.Bool.Decides.{eqb_tells}
-use Rattle.std.proofs.lemmas.Nat.Bits.{bit_at-lt, bit_at_lowest, bit_at-suc}
-use Rattle.netlist_core.specs.declared.bit.Bit.{Bit}
-use Rattle.netlist_core.specs.declared.bit.Bit.TheVariants.{Fixed, Net}
+use Rattle.flat_runs.proofs.Common.{◌≡◌, ◌≢◌, ◌⊎◌, ℕ, zero, suc, ◌+◌, ◌/◌, ◌%◌, ◌<◌, ◌≤◌, Bool, true, false, ◌||◌, List, [], ◌∷◌, map, length, nat_eq, slice_get, Option, Some, None, refl, sym, ◌∙◌}
+use Rattle.flat_runs.proofs.Common.{ap, subst, inl, inr, arith, slice_index_or, Contains, bit_at, false≢true, or_cases, or_left, or_right, eqb_tells, bit_at-lt, bit_at_lowest, bit_at-suc, Bit, Fixed}
+use Rattle.flat_runs.proofs.Common.{Net, Register, times, times_at, digit, bits_at, Building, signal, IsJoined, joint_of, has_net, is_stored, Design, IsBit, IsWritten, LeadsTo, no_signal, of_input}
+use Rattle.flat_runs.proofs.Common.{of_register, unwritten, to_constant, to_net, all_led, IsFirstWith, AreRegisters, IsPut, ArePut, IsWhole, ReadyFinishes, joint_found, joint_none, stored_there}
+use Rattle.flat_runs.proofs.Common.{stored_told, has_net_there, has_net_told, has_first, has_more, has_none, has_cases, false_from_ne_true}
 use Rattle.netlist_core.specs.declared.port.Port.{Port}
-use Rattle.netlist_core.specs.declared.port.Register.{Register}
-use Rattle.netlist_core.specs.Drivers.{times, times_at}
-use Rattle.netlist_core.specs.Numbers.{digit}
-use Rattle.netlist_core.specs.Runs.{bits_at}
 use Rattle.net_builder.specs.declared.steps.Step.TheVariants.{Stays, Constant, On}
-use Rattle.net_builder.specs.Building.{Building, signal}
-use Rattle.net_builder.specs.Written.{IsJoined, joint_of, has_net, is_stored}
 use Rattle.net_builder.specs.Finished.{some_has, later, start_among, start_of, stepped, step_of, stays, fixed, goes, led_register, led_port}
 use Rattle.net_builder.specs.Finished.{LeadsTo as Leads}
-use Rattle.net_builder.proofs.Writing.{joint_found, joint_none, stored_there, stored_told, has_net_there, has_net_told}
-use Rattle.flat_runs.specs.Designs.{Design}
-use Rattle.flat_runs.specs.Adding.{IsBit, IsWritten}
-use Rattle.flat_runs.specs.Finishing.{LeadsTo, no_signal, of_input, of_register, unwritten, to_constant, to_net, all_led, IsFirstWith, AreRegisters, IsPut, ArePut, IsWhole}
-use Rattle.flat_runs.specs.Laws.{ReadyFinishes}
-use Rattle.flat_runs.proofs.Lists.{contains_first, contains_more, contains_none, contains_cases, get_contains, contains_get}
+use Rattle.flat_runs.proofs.Lists.{get_contains, contains_get}
 use Rattle.flat_runs.proofs.Signals.{bits_in, times_get, times_in, are_apart}
 
 -- Start values.
@@ -119,7 +104,7 @@ digit_of v i = by (bit_at v i) (bit_at-lt v i)
 
 -- What a step tells.
 
-stepped_on : (o : Option Bit) (k : Bool) (s : Option Bool) (m : ℕ) → stepped o k s ≡ On m → o ≡ Some (Net m)
+pub stepped_on : (o : Option Bit) (k : Bool) (s : Option Bool) (m : ℕ) → stepped o k s ≡ On m → o ≡ Some (Net m)
 stepped_on (Some (Fixed v)) k s m e = absurd cc
 stepped_on (Some (Net x)) k s m e = let same : x ≡ m = cc in ap (λ (y : ℕ). Some (Net y)) same
 stepped_on None true s m e = absurd cc
@@ -149,22 +134,18 @@ not_or true b e = absurd cc
 not_or false true e = absurd cc
 not_or false false e = (refl, refl)
 
-not_true : (b : Bool) → (b ≡ true → ⊥) → b ≡ false
-not_true true h = absurd (h refl)
-not_true false h = refl
-
 -- An input's bits.
 
 some_there : (b : Building) (ks : List ℕ) (n : ℕ) → some_has (map (signal b) ks) n ≡ true → (k : ℕ) × (i : ℕ) × IsBit b k i n × Contains ks k
 some_there b [] n e = absurd (false≢true e)
 some_there b (k ∷ ks) n e = elim (or_cases (has_net (signal b k) n) (some_has (map (signal b) ks) n) e) [
-  | inl here ↦ (let at = contains_get (signal b k) (Net n) (has_net_there (signal b k) n here) in (k, at.0, at.1, contains_first ks k))
-  | inr later ↦ (let t = some_there b ks n later in (t.0, t.1, t.2, contains_more ks k t.0 t.3))
+  | inl here ↦ (let at = contains_get (signal b k) (Net n) (has_net_there (signal b k) n here) in (k, at.0, at.1, has_first ks k))
+  | inr later ↦ (let t = some_there b ks n later in (t.0, t.1, t.2, has_more ks k t.0 t.3))
 ]
 
 some_told : (b : Building) (ks : List ℕ) (n k i : ℕ) → IsBit b k i n → Contains ks k → some_has (map (signal b) ks) n ≡ true
-some_told b [] n k i at has = absurd (contains_none k has)
-some_told b (j ∷ ks) n k i at has = elim (contains_cases ks j k has) [
+some_told b [] n k i at has = absurd (has_none k has)
+some_told b (j ∷ ks) n k i at has = elim (has_cases ks j k has) [
   | inl same ↦ or_left (has_net (signal b j) n) (some_has (map (signal b) ks) n) (has_net_told (signal b j) n (subst (λ (x : ℕ). Contains (signal b x) (Net n)) (sym same) (get_contains (signal b k) i (Net n) at)))
   | inr rest ↦ or_right (has_net (signal b j) n) (some_has (map (signal b) ks) n) (some_told b ks n k i at rest)
 ]
@@ -213,8 +194,8 @@ module _ (b : Building) (design : Design) (ins outs : List Port) (h : IsWhole b 
       stays n (kept_stays n free (or_left (is_stored b.registers n) (some_has (bits_at ins) n) (stored_told b.registers n is.0 is.1 is.2)))
   to_step n _ (unwritten _ k i v at no_input not e) =
       let free : joint_of b.joints n ≡ None = joint_free n (λ j. not (n, at, inl j)) in
-      let unstored : is_stored b.registers n ≡ false = not_true (is_stored b.registers n) (λ is. not (n, at, inr (stored_there b.registers n is))) in
-      let unkept : some_has (bits_at ins) n ≡ false = not_true (some_has (bits_at ins) n) (λ is. (let t = an_input n is in no_input (subst (λ (x : ℕ). Contains design.inputs x) (are_apart b h.own t.0 t.1 k i n t.2 at).0 t.3))) in
+      let unstored : is_stored b.registers n ≡ false = false_from_ne_true (is_stored b.registers n) (λ is. not (n, at, inr (stored_there b.registers n is))) in
+      let unkept : some_has (bits_at ins) n ≡ false = false_from_ne_true (some_has (bits_at ins) n) (λ is. (let t = an_input n is in no_input (subst (λ (x : ℕ). Contains design.inputs x) (are_apart b h.own t.0 t.1 k i n t.2 at).0 t.3))) in
       fixed n v (step_by n None false (Some v) free (rw (unstored, unkept) refl) (starts_at n k i v at e))
   to_step n _ (to_constant _ v has) = fixed n v (step_by n (Some (Fixed v)) (is_stored b.registers n || some_has (bits_at ins) n) (start_of b.signals b.starts n) (joint_is n (Fixed v) has) refl refl)
   to_step n _ (to_net _ m end has leads) = goes n m end (step_by n (Some (Net m)) (is_stored b.registers n || some_has (bits_at ins) n) (start_of b.signals b.starts n) (joint_is n (Net m) has) refl refl) (to_step m end leads)

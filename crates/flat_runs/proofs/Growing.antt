@@ -1,25 +1,13 @@
 -- Cells that are added one after the other extend every run.
-use Rattle.std.proofs.Common.{◌≡◌, ◌⊎◌, ℕ, zero, suc, ◌+◌, ◌%◌, ◌^◌, ◌<◌, ◌≤◌, Bool, List, [], ◌∷◌, ◌++◌, length, slice_get, Some, refl, sym, ◌∙◌, ap, subst, inl, inr, arith, append_assoc}
-use Rattle.std.proofs.lemmas.Bool.{cases_lt}
-use Rattle.std.proofs.lemmas.List.{append-nil}
-use Rattle.netlist_core.specs.declared.bit.Bit.{Bit}
-use Rattle.netlist_core.specs.declared.bit.Bit.TheVariants.{Fixed, Net}
-use Rattle.netlist_core.specs.declared.cell.Cell.{Cell}
-use Rattle.netlist_core.specs.Numbers.{number}
-use Rattle.netlist_core.specs.Cells.{cell_value}
-use Rattle.netlist_core.specs.Runs.{Nets, bit_value, values, plain, input_ports, output_port, ports_seen, Computes}
-use Rattle.netlist_core.specs.declared.port.Register.{Register}
+use Rattle.flat_runs.proofs.Common.{◌≡◌, ◌⊎◌, ℕ, zero, suc, ◌+◌, ◌%◌, ◌^◌, ◌<◌, ◌≤◌, Bool, List, [], ◌∷◌, ◌++◌, length, slice_get, Some, refl, sym, ◌∙◌, ap, subst, inl, inr, arith, append_assoc}
+use Rattle.flat_runs.proofs.Common.{cases_lt, append-nil, Bit, Fixed, Net, Cell, number, cell_value, Nets, bit_value, values, plain, input_ports, output_port, ports_seen, Computes, Register, times}
+use Rattle.flat_runs.proofs.Common.{times_at, y_bits, laid, number_at, laid-other, laid-number, Joint, Building, AllBelow, PortsBelow, AreAdded, empty, fresh_bits, with_declared, AgreeBelow, Extended}
+use Rattle.flat_runs.proofs.Common.{Extends, AreCellsBelow, AreJointsBelow, AreRegistersBelow, AreFormed, owners, StandsBelow, CellsExtend, DeclaredStandBelow, StartsStandBelow, RegistersStandBelow}
 use Rattle.netlist_core.specs.Shapes.{HasShape}
-use Rattle.netlist_core.specs.Drivers.{times, times_at, y_bits}
 use Rattle.netlist_core.specs.Checked.{AllNets, AllWide}
-use Rattle.netlist_core.specs.Settled.{laid, number_at}
-use Rattle.netlist_core.proofs.Settles.{laid-other, laid-number}
-use Rattle.net_builder.specs.declared.builder.Joint.{Joint}
-use Rattle.net_builder.specs.Building.{Building, AllBelow, PortsBelow, AreAdded, empty, fresh_bits, with_declared}
-use Rattle.flat_runs.specs.Adding.{AgreeBelow, Extended, Extends}
-use Rattle.flat_runs.specs.Parts.{AreCellsBelow, AreJointsBelow, AreRegistersBelow, AreFormed, owners, StandsBelow}
-use Rattle.flat_runs.specs.Laws.{CellsExtend, DeclaredStandBelow, StartsStandBelow, RegistersStandBelow}
-use Rattle.flat_runs.proofs.Signals.{below_more, ports_more, times_push, fresh_nets, fresh_above, fresh_in, fresh_beyond, fresh_once, fresh_below}
+use Rattle.flat_runs.proofs.Signals.{ports_more, times_push, fresh_nets, fresh_above, fresh_in, fresh_beyond, fresh_once}
+use Rattle.flat_runs.proofs.Combining.{no_change}
+use Rattle.net_builder.proofs.Parts.{below_later, fresh_below}
 
 -- Values that agree below.
 
@@ -39,7 +27,7 @@ ports_agree limit a b agree c d p (bits ∷ more) h =
     let tail : ports_seen (plain b) c (p + 1) more ≡ ports_seen (plain a) d (p + 1) more = ports_agree limit a b agree c d (p + 1) more h.1 in
     rw (head, tail) refl
 
-inputs_below : (limit : ℕ) (ports : List (List Bit)) → PortsBelow limit ports → PortsBelow limit (input_ports ports)
+pub inputs_below : (limit : ℕ) (ports : List (List Bit)) → PortsBelow limit ports → PortsBelow limit (input_ports ports)
 inputs_below limit [] h = tt
 inputs_below limit (y ∷ []) h = tt
 inputs_below limit (a ∷ b ∷ more) h = (h.0, inputs_below limit (b ∷ more) h.1)
@@ -146,11 +134,11 @@ cells_more n m (x ∷ more) le h = (ports_more n m x.ports le h.0, cells_more n 
 
 joints_more : (n m : ℕ) (joints : List Joint) → n ≤ m → AreJointsBelow n joints → AreJointsBelow m joints
 joints_more n m [] le h = tt
-joints_more n m (j ∷ more) le h = (omega (arith, h.0), below_more n m (j.bit ∷ []) le h.1, joints_more n m more le h.2)
+joints_more n m (j ∷ more) le h = (omega (arith, h.0), below_later n m (j.bit ∷ []) le h.1, joints_more n m more le h.2)
 
 registers_more : (n m : ℕ) (registers : List Register) → n ≤ m → AreRegistersBelow n registers → AreRegistersBelow m registers
 registers_more n m [] le h = tt
-registers_more n m (r ∷ more) le h = (below_more n m r.d le h.0, h.1, registers_more n m more le h.2)
+registers_more n m (r ∷ more) le h = (below_later n m r.d le h.0, h.1, registers_more n m more le h.2)
 
 cells_push : (limit : ℕ) (cells : List Cell) (cell : Cell) → AreCellsBelow limit cells → PortsBelow limit cell.ports → AreCellsBelow limit (cells ++ cell ∷ [])
 cells_push limit [] cell h k = (k, tt)
@@ -241,16 +229,6 @@ extends_again a b c e f = record {
       record { wider = y.wider; agree = λ n less. y.agree n (omega (arith, less, e.nets)) ∙ x.agree n less; runs = y.runs };
 }
 
-extends_not : (b : Building) → Extends b b
-extends_not b = record {
-  signals = refl;
-  joints = refl;
-  registers = refl;
-  nets = omega arith;
-  earlier = λ nets runs. runs;
-  later = λ nets runs. record { wider = nets; agree = λ n less. refl; runs = runs };
-}
-
 abbrev Grown : Building → Building → Type 0
 Grown old new = Extends old new × StandsBelow new
 
@@ -258,7 +236,7 @@ grown : (b : Building) (more : List Cell) (to : ℕ) → StandsBelow b → AreAd
 grown b [] to stands added =
     let P : Building → Type 0 = λ (x : Building). Grown b x in
     let same : b ≡ record b { cells = b.cells ++ []; nets = to } = ap (λ (cs : List Cell). record b { cells = cs }) (sym (append-nil b.cells)) ∙ ap (λ (n : ℕ). record b { cells = b.cells ++ []; nets = n }) added in
-    subst P same (extends_not b, stands)
+    subst P same (no_change b, stands)
 grown b (cell ∷ more) to stands added =
     let next : Building = one_cell b cell in
     let e : Extends b next = cell_extends b cell stands added.2 added.3 in

@@ -1,22 +1,9 @@
 -- A left side that is joined to bits has the bits of their number.
-use Rattle.std.proofs.Common.{◌≡◌, ◌⊎◌, ℕ, zero, suc, List, [], ◌∷◌, ◌++◌, slice_get, Option, None, Some, refl, sym, ◌∙◌, ap, subst, inl, inr}
-use Rattle.std.specs.List.{Contains}
-use Rattle.std.proofs.lemmas.List.{append-nil}
-use Rattle.std.proofs.lemmas.List.Elements.{Contains-append_left, Contains-append_right, Contains-append_cases}
-use Rattle.netlist_core.specs.declared.bit.Bit.{Bit}
-use Rattle.netlist_core.specs.declared.bit.Bit.TheVariants.{Fixed, Net}
-use Rattle.netlist_core.specs.declared.port.Register.{Register}
-use Rattle.netlist_core.specs.Numbers.{digit, number}
-use Rattle.netlist_core.specs.Runs.{Nets, bit_value, values}
-use Rattle.vlog_meaning.specs.Scopes.{Store}
-use Rattle.net_builder.specs.declared.builder.Joint.{Joint}
-use Rattle.net_builder.specs.Building.{Building, RunsIn, AllBelow, PortsBelow, signal, store}
-use Rattle.flat_runs.specs.Meanings.{Place, LeftIs, NamesOnce}
-use Rattle.net_builder.specs.Written.{IsJoined, IsStored}
-use Rattle.flat_runs.specs.Adding.{HasOwnNets, IsBit, IsWritten, Extended, Extends}
-use Rattle.flat_runs.specs.Parts.{with_joints, AreJoints, AreJointsBelow, StandsBelow, whole, AllJoin}
-use Rattle.flat_runs.specs.Laws.{AssignsAdd, JointsStandBelow, VariablesStandBelow}
-use Rattle.flat_runs.proofs.Lists.{contains_first, contains_more, contains_none, contains_cases, get_contains, contains_get}
+use Rattle.flat_runs.proofs.Common.{◌≡◌, ◌⊎◌, ℕ, zero, suc, List, [], ◌∷◌, ◌++◌, slice_get, Option, None, Some, refl, sym, ◌∙◌, ap, subst, inl, inr, Contains, append-nil, Contains-append_left}
+use Rattle.flat_runs.proofs.Common.{Contains-append_right, Contains-append_cases, Bit, Fixed, Net, Register, digit, number, Nets, bit_value, values, Store, Joint, Building, RunsIn, AllBelow}
+use Rattle.flat_runs.proofs.Common.{PortsBelow, signal, store, Place, LeftIs, NamesOnce, IsJoined, IsStored, HasOwnNets, IsBit, IsWritten, Extended, Extends, with_joints, AreJoints, AreJointsBelow}
+use Rattle.flat_runs.proofs.Common.{StandsBelow, whole, AllJoin, AssignsAdd, JointsStandBelow, VariablesStandBelow, has_first, has_more, has_none, has_cases}
+use Rattle.flat_runs.proofs.Lists.{get_contains, contains_get}
 use Rattle.flat_runs.proofs.Values.{half_of, low_of, digit_injective, value_at}
 use Rattle.flat_runs.proofs.Signals.{bits_in, are_below, are_apart, store_same}
 
@@ -32,7 +19,7 @@ held_at nets (j ∷ more) (suc k) joint h at = held_at nets more k joint h.1 at
 
 all_held : (nets : Nets) (joints : List Joint) → ((joint : Joint) → Contains joints joint → nets joint.net ≡ bit_value nets joint.bit) → AllHold nets joints
 all_held nets [] h = tt
-all_held nets (j ∷ more) h = (h j (contains_first more j), all_held nets more (λ joint has. h joint (contains_more more j joint has)))
+all_held nets (j ∷ more) h = (h j (has_first more j), all_held nets more (λ joint has. h joint (has_more more j joint has)))
 
 pub left_of : (b : Building) (nets : Nets) (left : List (Option Place)) (bits : List Bit) (joints : List Joint) → AreJoints b left bits joints → AllHold nets joints → LeftIs (store b nets) left (number (values nets bits))
 left_of b nets [] bits joints a h = tt
@@ -67,33 +54,33 @@ joints_of b nets (Some p ∷ more) (x ∷ bits) (j ∷ joints) a l =
 
 -- the place of a joint
 pub place_of : (b : Building) (left : List (Option Place)) (bits : List Bit) (joints : List Joint) → AreJoints b left bits joints → (joint : Joint) → Contains joints joint → (p : Place) × Contains left (Some p) × IsBit b p.signal p.bit joint.net
-place_of b [] bits [] a joint has = absurd (contains_none joint has)
+place_of b [] bits [] a joint has = absurd (has_none joint has)
 place_of b [] bits (j ∷ joints) a joint has = absurd a
 place_of b (None ∷ more) [] joints a joint has = absurd a
 place_of b (None ∷ more) (x ∷ bits) joints a joint has =
     let r = place_of b more bits joints a joint has in
-    (r.0, contains_more more None (Some r.0) r.1, r.2)
+    (r.0, has_more more None (Some r.0) r.1, r.2)
 place_of b (Some p ∷ more) [] joints a joint has = absurd a
 place_of b (Some p ∷ more) (x ∷ bits) [] a joint has = absurd a
-place_of b (Some p ∷ more) (x ∷ bits) (j ∷ joints) a joint has = elim (contains_cases joints j joint has) [
-  | inl same ↦ (p, contains_first more (Some p), subst (λ (y : Joint). IsBit b p.signal p.bit y.net) same a.0)
-  | inr later ↦ let r = place_of b more bits joints a.2 joint later in (r.0, contains_more more (Some p) (Some r.0) r.1, r.2)
+place_of b (Some p ∷ more) (x ∷ bits) (j ∷ joints) a joint has = elim (has_cases joints j joint has) [
+  | inl same ↦ (p, has_first more (Some p), subst (λ (y : Joint). IsBit b p.signal p.bit y.net) same a.0)
+  | inr later ↦ let r = place_of b more bits joints a.2 joint later in (r.0, has_more more (Some p) (Some r.0) r.1, r.2)
 ]
 
 -- no net is joined twice, where no place stands twice
 pub joined_once : (b : Building) (left : List (Option Place)) (bits : List Bit) (joints : List Joint) → HasOwnNets b → AreJoints b left bits joints → NamesOnce left → (n : ℕ) (x y : Bit) → Contains joints (record { net = n; bit = x }) → Contains joints (record { net = n; bit = y }) → x ≡ y
-joined_once b [] bits [] own a once n x y has_x has_y = absurd (contains_none (record { net = n; bit = x }) has_x)
+joined_once b [] bits [] own a once n x y has_x has_y = absurd (has_none (record { net = n; bit = x }) has_x)
 joined_once b [] bits (j ∷ joints) own a once n x y has_x has_y = absurd a
 joined_once b (None ∷ more) [] joints own a once n x y has_x has_y = absurd a
 joined_once b (None ∷ more) (z ∷ bits) joints own a once n x y has_x has_y = joined_once b more bits joints own a once n x y has_x has_y
 joined_once b (Some p ∷ more) [] joints own a once n x y has_x has_y = absurd a
 joined_once b (Some p ∷ more) (z ∷ bits) [] own a once n x y has_x has_y = absurd a
-joined_once b (Some p ∷ more) (z ∷ bits) (j ∷ joints) own a once n x y has_x has_y = elim (contains_cases joints j (record { net = n; bit = x }) has_x) [
-  | inl first ↦ elim (contains_cases joints j (record { net = n; bit = y }) has_y) [
+joined_once b (Some p ∷ more) (z ∷ bits) (j ∷ joints) own a once n x y has_x has_y = elim (has_cases joints j (record { net = n; bit = x }) has_x) [
+  | inl first ↦ elim (has_cases joints j (record { net = n; bit = y }) has_y) [
     | inl second ↦ ap (λ (k : Joint). k.bit) (sym first ∙ second)
     | inr later ↦ absurd (apart y first later)
   ]
-  | inr later ↦ elim (contains_cases joints j (record { net = n; bit = y }) has_y) [
+  | inr later ↦ elim (has_cases joints j (record { net = n; bit = y }) has_y) [
     | inl second ↦ absurd (apart x second later)
     | inr also ↦ joined_once b more bits joints own a.2 once.1 n x y later also
   ]
@@ -109,17 +96,17 @@ joined_once b (Some p ∷ more) (z ∷ bits) (j ∷ joints) own a once n x y has
 
 -- the joint of a place
 joint_of : (b : Building) (left : List (Option Place)) (bits : List Bit) (joints : List Joint) → AreJoints b left bits joints → (p : Place) → Contains left (Some p) → (j : Joint) × Contains joints j × IsBit b p.signal p.bit j.net
-joint_of b [] bits joints a p has = absurd (contains_none (Some p) has)
+joint_of b [] bits joints a p has = absurd (has_none (Some p) has)
 joint_of b (None ∷ more) [] joints a p has = absurd a
-joint_of b (None ∷ more) (x ∷ bits) joints a p has = elim (contains_cases more None (Some p) has) [
+joint_of b (None ∷ more) (x ∷ bits) joints a p has = elim (has_cases more None (Some p) has) [
   | inl same ↦ absurd cc
   | inr later ↦ joint_of b more bits joints a p later
 ]
 joint_of b (Some q ∷ more) [] joints a p has = absurd a
 joint_of b (Some q ∷ more) (x ∷ bits) [] a p has = absurd a
-joint_of b (Some q ∷ more) (x ∷ bits) (j ∷ joints) a p has = elim (contains_cases more (Some q) (Some p) has) [
-  | inl same ↦ let is : q ≡ p = cc in (j, contains_first joints j, subst (λ (y : Place). IsBit b y.signal y.bit j.net) is a.0)
-  | inr later ↦ let r = joint_of b more bits joints a.2 p later in (r.0, contains_more joints j r.0 r.1, r.2)
+joint_of b (Some q ∷ more) (x ∷ bits) (j ∷ joints) a p has = elim (has_cases more (Some q) (Some p) has) [
+  | inl same ↦ let is : q ≡ p = cc in (j, has_first joints j, subst (λ (y : Place). IsBit b y.signal y.bit j.net) is a.0)
+  | inr later ↦ let r = joint_of b more bits joints a.2 p later in (r.0, has_more joints j r.0 r.1, r.2)
 ]
 
 -- Runs of a builder with more joints.

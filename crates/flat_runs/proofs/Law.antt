@@ -1,26 +1,11 @@
 -- Cycles of the netlist are cycles of the source, and so are runs.
-use Rattle.std.proofs.Common.{◌≡◌, ℕ, ◌^◌, ◌<◌, ◌≤◌, Bool, List, [], ◌∷◌, ◌++◌, map, length, slice_get, Some, refl, sym, ◌∙◌, ap, subst, inl, inr}
-use Rattle.std.specs.List.{Contains}
-use Rattle.std.specs.Int.{bit_at}
-use Rattle.std.proofs.lemmas.Option.{slice_get_within}
-use Rattle.netlist_core.specs.declared.bit.Bit.{Bit}
-use Rattle.netlist_core.specs.declared.bit.Bit.TheVariants.{Fixed, Net}
-use Rattle.netlist_core.specs.declared.cell.Cell.{Cell}
-use Rattle.netlist_core.specs.declared.port.Register.{Register}
+use Rattle.flat_runs.proofs.Common.{◌≡◌, ℕ, ◌^◌, ◌<◌, ◌≤◌, Bool, List, [], ◌∷◌, ◌++◌, map, length, slice_get, Some, refl, sym, ◌∙◌, ap, subst, inl, inr, Contains, bit_at, slice_get_within, Bit, Fixed}
+use Rattle.flat_runs.proofs.Common.{Net, Cell, Register, digit, number, Nets, bit_value, values, plain, Computes, Holds, IsRun, shown, taken, outputs_by, port_numbers, q_bits, laid_all, all_zero}
+use Rattle.flat_runs.proofs.Common.{laid_all-numbers, Store, Joint, Building, RunsIn, signal, store, AllSay, all_leave, SomeWrites, Design, IsFree, Cycle, outputs_of, next_of, IsSourceRun}
+use Rattle.flat_runs.proofs.Common.{source_outputs, source_states, HasOwnNets, IsBit, IsWritten, AgreeBelow, Extended, Take, AddsItems, Begins, LeadsTo, no_signal, of_input, of_register, unwritten}
+use Rattle.flat_runs.proofs.Common.{to_constant, to_net, led, led_cell, Finishes, RunsAlike, BuiltRuns, netlist_states, has_none}
 use Rattle.netlist_core.specs.declared.raw.RawNetlist.{RawNetlist}
-use Rattle.netlist_core.specs.Numbers.{digit, number}
-use Rattle.netlist_core.specs.Runs.{Nets, bit_value, values, plain, Computes, Holds, IsRun, shown, taken, outputs_by, port_numbers, q_bits}
-use Rattle.netlist_core.specs.Settled.{laid_all, all_zero}
-use Rattle.netlist_core.proofs.Settles.{laid_all-numbers}
-use Rattle.vlog_meaning.specs.Scopes.{Store}
-use Rattle.net_builder.specs.declared.builder.Joint.{Joint}
-use Rattle.net_builder.specs.Building.{Building, RunsIn, signal, store}
-use Rattle.flat_runs.specs.Meanings.{AllSay, all_leave, SomeWrites}
-use Rattle.flat_runs.specs.Designs.{Design, IsFree, Cycle, outputs_of, next_of, IsSourceRun, source_outputs, source_states}
-use Rattle.flat_runs.specs.Adding.{HasOwnNets, IsBit, IsWritten, AgreeBelow, Extended, Take, AddsItems}
-use Rattle.flat_runs.specs.Finishing.{Begins, LeadsTo, no_signal, of_input, of_register, unwritten, to_constant, to_net, led, led_cell, Finishes}
-use Rattle.flat_runs.specs.Laws.{RunsAlike, BuiltRuns, netlist_states}
-use Rattle.flat_runs.proofs.Lists.{contains_none, contains_get, get_contains}
+use Rattle.flat_runs.proofs.Lists.{contains_get, get_contains}
 use Rattle.flat_runs.proofs.Values.{bit_digit, digit_injective, value_at, values_same}
 use Rattle.flat_runs.proofs.Signals.{bits_in, store_in, net_of, are_below, own_stays, store_fits, store_same, kept_numbers, firsts, firsts_fit, firsts_stored}
 use Rattle.flat_runs.proofs.Chain.{Whole, all_items, take_same}
@@ -67,8 +52,8 @@ shows last design netlist f nets = sym (shown_led f.to nets last.signals design.
 -- nothing is written at first
 unwritten_first : (first : Building) (design : Design) → Begins first design → (k i : ℕ) → ¬ IsWritten first k i
 unwritten_first first design b k i w = elim w.2 [
-  | inl joined ↦ contains_none (record { net = w.0; bit = joined.0 }) (subst (λ (js : List Joint). Contains js (record { net = w.0; bit = joined.0 })) b.joints joined.1)
-  | inr stored ↦ contains_none stored.0 (subst (λ (rs : List Register). Contains rs stored.0) b.registers stored.1)
+  | inl joined ↦ has_none (record { net = w.0; bit = joined.0 }) (subst (λ (js : List Joint). Contains js (record { net = w.0; bit = joined.0 })) b.joints joined.1)
+  | inr stored ↦ has_none stored.0 (subst (λ (rs : List Register). Contains rs stored.0) b.registers stored.1)
 ]
 
 -- What stands of the last builder.

@@ -1,12 +1,6 @@
 -- Reading a finished netlist is reading each bit at its end.
-use Rattle.std.proofs.Common.{◌≡◌, ℕ, zero, suc, ◌+◌, List, [], ◌∷◌, map, length, slice_get, Some, refl, sym, ◌∙◌, ap}
-use Rattle.netlist_core.specs.declared.bit.Bit.{Bit}
-use Rattle.netlist_core.specs.declared.bit.Bit.TheVariants.{Fixed, Net}
-use Rattle.netlist_core.specs.declared.cell.Cell.{Cell}
-use Rattle.netlist_core.specs.Numbers.{number}
-use Rattle.netlist_core.specs.Cells.{cell_value}
-use Rattle.netlist_core.specs.Runs.{Nets, bit_value, values, plain, input_ports, output_port, ports_seen, Computes}
-use Rattle.flat_runs.specs.Finishing.{led, all_led, led_cell}
+use Rattle.flat_runs.proofs.Common.{◌≡◌, ℕ, zero, suc, ◌+◌, List, [], ◌∷◌, map, length, slice_get, Some, refl, sym, ◌∙◌, ap, Bit, Fixed, Net, Cell, number, cell_value, Nets, bit_value, values, plain}
+use Rattle.flat_runs.proofs.Common.{input_ports, output_port, ports_seen, Computes, led, all_led, led_cell}
 use Rattle.flat_runs.proofs.Signals.{bits_in, store_in}
 
 -- each net with the value of its end
@@ -24,12 +18,12 @@ led-values to nets (b ∷ more) =
     let tail : values nets (all_led to more) ≡ values (full to nets) more = led-values to nets more in
     cc
 
-input-led : (to : ℕ → Bit) (ports : List (List Bit)) → input_ports (map (all_led to) ports) ≡ map (all_led to) (input_ports ports)
+pub input-led : (to : ℕ → Bit) (ports : List (List Bit)) → input_ports (map (all_led to) ports) ≡ map (all_led to) (input_ports ports)
 input-led to [] = refl
 input-led to (a ∷ []) = refl
 input-led to (a ∷ b ∷ more) = ap (λ (t : List (List Bit)). all_led to a ∷ t) (input-led to (b ∷ more))
 
-output-led : (to : ℕ → Bit) (ports : List (List Bit)) → output_port (map (all_led to) ports) ≡ all_led to (output_port ports)
+pub output-led : (to : ℕ → Bit) (ports : List (List Bit)) → output_port (map (all_led to) ports) ≡ all_led to (output_port ports)
 output-led to [] = refl
 output-led to (a ∷ []) = refl
 output-led to (a ∷ b ∷ more) = output-led to (b ∷ more)
@@ -41,7 +35,7 @@ ports-led to nets c p (bits ∷ more) =
     let tail : ports_seen (plain nets) c (p + 1) (map (all_led to) more) ≡ ports_seen (plain (full to nets)) c (p + 1) more = ports-led to nets c (p + 1) more in
     rw (head, tail) refl
 
-length-led : (to : ℕ → Bit) (bits : List Bit) → length (all_led to bits) ≡ length bits
+pub length-led : (to : ℕ → Bit) (bits : List Bit) → length (all_led to bits) ≡ length bits
 length-led to [] = refl
 length-led to (b ∷ more) = ap suc (length-led to more)
 

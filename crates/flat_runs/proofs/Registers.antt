@@ -1,17 +1,6 @@
 -- Registers of the netlist take what the items leave to their signals.
-use Rattle.std.proofs.Common.{◌≡◌, ℕ, ◌+◌, ◌≤◌, List, [], ◌∷◌, map, length, refl, sym, ◌∙◌, ap, subst, inl, inr}
-use Rattle.std.specs.List.{Contains}
-use Rattle.std.proofs.lemmas.Bool.Decides.{eqb_tells}
-use Rattle.netlist_core.specs.declared.bit.Bit.{Bit}
-use Rattle.netlist_core.specs.declared.port.Register.{Register}
-use Rattle.netlist_core.specs.Numbers.{number}
-use Rattle.netlist_core.specs.Runs.{Nets, values, plain, q_bits, taken}
-use Rattle.net_builder.specs.Building.{Building, signal}
-use Rattle.flat_runs.specs.Meanings.{Taken, taken_by}
-use Rattle.flat_runs.specs.Designs.{Design}
-use Rattle.flat_runs.specs.Adding.{HasOwnNets, Take}
-use Rattle.flat_runs.specs.Finishing.{IsFirstWith, IsRegister, AreRegisters}
-use Rattle.flat_runs.proofs.Lists.{contains_first, contains_more, contains_none, contains_cases}
+use Rattle.flat_runs.proofs.Common.{◌≡◌, ℕ, ◌+◌, ◌≤◌, List, [], ◌∷◌, map, length, refl, sym, ◌∙◌, ap, subst, inl, inr, Contains, eqb_tells, Bit, Register, number, Nets, values, plain, q_bits, taken}
+use Rattle.flat_runs.proofs.Common.{Building, signal, Taken, taken_by, Design, HasOwnNets, Take, IsFirstWith, IsRegister, AreRegisters, has_first, has_more, has_none, has_cases}
 use Rattle.flat_runs.proofs.Signals.{same_signal}
 use Rattle.flat_runs.proofs.Led.{full, led-values}
 
@@ -19,14 +8,14 @@ use Rattle.flat_runs.proofs.Led.{full, led-values}
 pub first_is : (q : List Bit) (rs : List Register) (r : Register) → IsFirstWith q rs r → Contains rs r × (r.q ≡ q)
 first_is q [] r first = absurd first
 first_is q (s ∷ more) r first = elim first [
-  | inl here ↦ (subst (λ (x : Register). Contains (s ∷ more) x) here.1 (contains_first more s), subst (λ (x : Register). x.q ≡ q) here.1 here.0)
-  | inr later ↦ let m = first_is q more r later.1 in (contains_more more s r m.0, m.1)
+  | inl here ↦ (subst (λ (x : Register). Contains (s ∷ more) x) here.1 (has_first more s), subst (λ (x : Register). x.q ≡ q) here.1 here.0)
+  | inr later ↦ let m = first_is q more r later.1 in (has_more more s r m.0, m.1)
 ]
 
 pub built_of : (b : Building) (design : Design) (to : ℕ → Bit) (ks : List ℕ) (rs : List Register) → AreRegisters b design to ks rs → (k : ℕ) → Contains ks k → (r : Register) × Contains b.registers r × (r.q ≡ signal b k)
-built_of b design to [] rs are k has = absurd (contains_none k has)
+built_of b design to [] rs are k has = absurd (has_none k has)
 built_of b design to (j ∷ ks) [] are k has = absurd are
-built_of b design to (j ∷ ks) (r ∷ rs) are k has = elim (contains_cases ks j k has) [
+built_of b design to (j ∷ ks) (r ∷ rs) are k has = elim (has_cases ks j k has) [
   | inl same ↦
       let is : IsRegister b design to j r = are.0 in
       let m = first_is (signal b j) b.registers is.built is.first in
@@ -56,8 +45,8 @@ taken_all b own design to nets ts take (j ∷ ks) [] k some are = absurd are
 taken_all b own design to nets ts take (j ∷ ks) (r ∷ rs) k some are =
     let is : IsRegister b design to j r = are.0 in
     let head : number (values nets r.d) ≡ taken_by ts j =
-    ap (λ (d : List Bit). number (values nets d)) is.d ∙ ap number (led-values to nets is.built.d) ∙ taken_first b own (full to nets) b.registers ts j is.built (some j (contains_first ks j)) take is.first in
-    let tail : map (taken_by ts) ks ≡ taken (plain nets) (k + 1) rs = taken_all b own design to nets ts take ks rs (k + 1) (λ i has. some i (contains_more ks j i has)) are.1 in
+    ap (λ (d : List Bit). number (values nets d)) is.d ∙ ap number (led-values to nets is.built.d) ∙ taken_first b own (full to nets) b.registers ts j is.built (some j (has_first ks j)) take is.first in
+    let tail : map (taken_by ts) ks ≡ taken (plain nets) (k + 1) rs = taken_all b own design to nets ts take ks rs (k + 1) (λ i has. some i (has_more ks j i has)) are.1 in
     ap (λ (n : ℕ). n ∷ map (taken_by ts) ks) (sym head) ∙ ap (λ (ns : List ℕ). number (values nets r.d) ∷ ns) tail
 
 pub stored_q : (b : Building) (design : Design) (to : ℕ → Bit) (ks : List ℕ) (rs : List Register) → AreRegisters b design to ks rs → q_bits rs ≡ map (signal b) ks

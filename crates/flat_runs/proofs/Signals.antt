@@ -1,23 +1,11 @@
 -- Bits and values of signals that have nets of their own.
-use Rattle.std.proofs.Common.{◌≡◌, ◌≢◌, ◌⊎◌, ℕ, zero, suc, ◌+◌, ◌^◌, ◌<◌, ◌≤◌, List, [], ◌∷◌, ◌++◌, map, length, nat_eq, slice_get, Some, refl, sym, ◌∙◌, ap, subst, inl, inr, arith}
-use Rattle.std.specs.Prelude.{slice_index_or, if◌then◌else◌}
-use Rattle.std.specs.List.{Contains}
-use Rattle.std.proofs.lemmas.Bool.Decides.{eqb_tells}
-use Rattle.std.proofs.lemmas.Bool.{cases_lt}
-use Rattle.netlist_core.specs.declared.bit.Bit.{Bit}
-use Rattle.netlist_core.specs.declared.bit.Bit.TheVariants.{Fixed, Net}
-use Rattle.netlist_core.specs.Numbers.{number}
-use Rattle.netlist_core.specs.Runs.{Nets, values, port_numbers}
-use Rattle.netlist_core.specs.Drivers.{times, times_at}
+use Rattle.flat_runs.proofs.Common.{◌≡◌, ◌≢◌, ◌⊎◌, ℕ, zero, suc, ◌+◌, ◌^◌, ◌<◌, ◌≤◌, List, [], ◌∷◌, ◌++◌, map, length, nat_eq, slice_get, Some, refl, sym, ◌∙◌, ap, subst, inl, inr, arith}
+use Rattle.flat_runs.proofs.Common.{slice_index_or, if◌then◌else◌, Contains, eqb_tells, cases_lt, Bit, Fixed, Net, number, Nets, values, port_numbers, times, times_at, Store, Building, AllBelow}
+use Rattle.flat_runs.proofs.Common.{PortsBelow, fresh_bits, empty, signal, store, length-values, number-fits, HasOwnNets, IsBit, DeclaredOwnNets, OwnNetsStay, has_first, has_more}
 use Rattle.netlist_core.specs.Checked.{AllNets, AllPortsNets}
 use Rattle.netlist_core.specs.Solutions.{FitPorts}
-use Rattle.vlog_meaning.specs.Scopes.{Store}
-use Rattle.net_builder.specs.Building.{Building, AllBelow, PortsBelow, fresh_bits, empty, signal, store}
-use Rattle.netlist_core.proofs.Settles.{length-values, number-fits}
-use Rattle.flat_runs.specs.Adding.{HasOwnNets, IsBit}
-use Rattle.flat_runs.specs.Laws.{DeclaredOwnNets, OwnNetsStay}
-use Rattle.flat_runs.proofs.Lists.{contains_first, contains_more}
 use Rattle.flat_runs.proofs.Values.{values_same}
+use Rattle.net_builder.proofs.Parts.{below_later, fresh_below}
 
 -- the bits of a signal, and the values of the signals
 abbrev pub bits_in : List (List Bit) → ℕ → List Bit
@@ -136,8 +124,8 @@ store_fits b nets k w long = subst (λ (n : ℕ). store b nets k < 2 ^ n) (lengt
 pub kept_numbers : (signals : List (List Bit)) (a b : Nets) (ks : List ℕ) → ((k : ℕ) → Contains ks k → values a (bits_in signals k) ≡ values b (bits_in signals k)) → port_numbers b (map (bits_in signals) ks) ≡ map (store_in signals a) ks
 kept_numbers signals a b [] h = refl
 kept_numbers signals a b (k ∷ more) h =
-    let head : number (values b (bits_in signals k)) ≡ number (values a (bits_in signals k)) = ap number (sym (h k (contains_first more k))) in
-    let tail : port_numbers b (map (bits_in signals) more) ≡ map (store_in signals a) more = kept_numbers signals a b more (λ j has. h j (contains_more more k j has)) in
+    let head : number (values b (bits_in signals k)) ≡ number (values a (bits_in signals k)) = ap number (sym (h k (has_first more k))) in
+    let tail : port_numbers b (map (bits_in signals) more) ≡ map (store_in signals a) more = kept_numbers signals a b more (λ j has. h j (has_more more k j has)) in
     rw (head, tail) refl
 
 -- Values of nets from values of signals.
@@ -157,14 +145,9 @@ firsts_stored (x ∷ more) nets s h e (suc k) = firsts_stored more nets (λ j. s
 
 -- Signals that are declared.
 
-pub below_more : (n m : ℕ) (bits : List Bit) → n ≤ m → AllBelow n bits → AllBelow m bits
-below_more n m [] le h = tt
-below_more n m (Fixed b ∷ more) le h = below_more n m more le h
-below_more n m (Net k ∷ more) le h = (omega (arith, h.0), below_more n m more le h.1)
-
 pub ports_more : (n m : ℕ) (ports : List (List Bit)) → n ≤ m → PortsBelow n ports → PortsBelow m ports
 ports_more n m [] le h = tt
-ports_more n m (bits ∷ more) le h = (below_more n m bits le h.0, ports_more n m more le h.1)
+ports_more n m (bits ∷ more) le h = (below_later n m bits le h.0, ports_more n m more le h.1)
 
 pub own_stays : OwnNetsStay
 own_stays old new own same grown = record {
@@ -204,12 +187,6 @@ fresh_beyond from (suc w) n over = elim (one_at-cases from n) [
   | inl same ↦ absurd (omega (arith, same.0, over))
   | inr other ↦ omega (arith, other.1, fresh_beyond (from + 1) w n (omega (arith, over)))
 ]
-
-pub fresh_below : (from w : ℕ) → AllBelow (from + w) (fresh_bits from w)
-fresh_below from zero = tt
-fresh_below from (suc w) =
-    let e : from + 1 + w ≡ from + suc w = omega arith in
-    (omega arith, subst (λ (n : ℕ). AllBelow n (fresh_bits (from + 1) w)) e (fresh_below (from + 1) w))
 
 below_times : (limit n : ℕ) (bits : List Bit) → limit ≤ n → AllBelow limit bits → times n bits ≡ 0
 below_times limit n [] le h = refl

@@ -1,19 +1,8 @@
 -- A clocked process is added by its cells and a register for each variable.
-use Rattle.std.proofs.Common.{◌≡◌, ◌⊎◌, ℕ, ◌<◌, List, [], ◌∷◌, ◌++◌, map, length, slice_get, Some, refl, sym, ◌∙◌, ap, subst, inl, inr}
-use Rattle.std.specs.List.{Contains}
-use Rattle.std.proofs.lemmas.List.{append-nil}
-use Rattle.std.proofs.lemmas.List.Elements.{Contains-append_left, Contains-append_right, Contains-append_cases}
-use Rattle.netlist_core.specs.declared.bit.Bit.{Bit}
-use Rattle.netlist_core.specs.declared.bit.Bit.TheVariants.{Net}
-use Rattle.netlist_core.specs.declared.port.Register.{Register}
-use Rattle.netlist_core.specs.Numbers.{number}
-use Rattle.netlist_core.specs.Runs.{Nets, values, q_bits}
-use Rattle.vlog_meaning.specs.Scopes.{Store}
-use Rattle.net_builder.specs.Building.{Building, RunsIn, signal, store}
-use Rattle.flat_runs.specs.Adding.{HasOwnNets, IsBit, IsWritten, Extended, Extends, Take}
-use Rattle.flat_runs.specs.Parts.{with_registers, AllMean, AreStored}
-use Rattle.flat_runs.specs.Laws.{ClockedAdd}
-use Rattle.flat_runs.proofs.Lists.{contains_first, contains_more, contains_none, contains_cases, contains_get, get_contains}
+use Rattle.flat_runs.proofs.Common.{◌≡◌, ◌⊎◌, ℕ, ◌<◌, List, [], ◌∷◌, ◌++◌, map, length, slice_get, Some, refl, sym, ◌∙◌, ap, subst, inl, inr, Contains, append-nil, Contains-append_left}
+use Rattle.flat_runs.proofs.Common.{Contains-append_right, Contains-append_cases, Bit, Net, Register, number, Nets, values, q_bits, Store, Building, RunsIn, signal, store, HasOwnNets, IsBit}
+use Rattle.flat_runs.proofs.Common.{IsWritten, Extended, Extends, Take, with_registers, AllMean, AreStored, ClockedAdd, has_first, has_more, has_none, has_cases}
+use Rattle.flat_runs.proofs.Lists.{contains_get, get_contains}
 use Rattle.flat_runs.proofs.Signals.{are_apart, net_of}
 use Rattle.flat_runs.proofs.Joining.{stored_same, joined_same, bit_same}
 
@@ -30,22 +19,22 @@ taken_all old mid (k ∷ ks) effect (x ∷ bits) (r ∷ rs) mean stored nets run
 )
 
 variable_of : (b : Building) (variables : List ℕ) (bits : List (List Bit)) (registers : List Register) → AreStored b variables bits registers → (r : Register) → Contains registers r → (k : ℕ) × Contains variables k × (r.q ≡ signal b k)
-variable_of b [] bits [] stored r has = absurd (contains_none r has)
+variable_of b [] bits [] stored r has = absurd (has_none r has)
 variable_of b [] bits (s ∷ rs) stored r has = absurd stored
 variable_of b (k ∷ ks) [] registers stored r has = absurd stored
 variable_of b (k ∷ ks) (x ∷ bits) [] stored r has = absurd stored
-variable_of b (k ∷ ks) (x ∷ bits) (s ∷ rs) stored r has = elim (contains_cases rs s r has) [
-  | inl same ↦ (k, contains_first ks k, subst (λ (y : Register). y.q ≡ signal b k) same stored.0)
-  | inr later ↦ let v = variable_of b ks bits rs stored.2 r later in (v.0, contains_more ks k v.0 v.1, v.2)
+variable_of b (k ∷ ks) (x ∷ bits) (s ∷ rs) stored r has = elim (has_cases rs s r has) [
+  | inl same ↦ (k, has_first ks k, subst (λ (y : Register). y.q ≡ signal b k) same stored.0)
+  | inr later ↦ let v = variable_of b ks bits rs stored.2 r later in (v.0, has_more ks k v.0 v.1, v.2)
 ]
 
 register_of : (b : Building) (variables : List ℕ) (bits : List (List Bit)) (registers : List Register) → AreStored b variables bits registers → (k : ℕ) → Contains variables k → (r : Register) × Contains registers r × (r.q ≡ signal b k)
-register_of b [] bits registers stored k has = absurd (contains_none k has)
+register_of b [] bits registers stored k has = absurd (has_none k has)
 register_of b (j ∷ ks) [] registers stored k has = absurd stored
 register_of b (j ∷ ks) (x ∷ bits) [] stored k has = absurd stored
-register_of b (j ∷ ks) (x ∷ bits) (r ∷ rs) stored k has = elim (contains_cases ks j k has) [
-  | inl same ↦ (r, contains_first rs r, stored.0 ∙ ap (signal b) same)
-  | inr later ↦ let x = register_of b ks bits rs stored.2 k later in (x.0, contains_more rs r x.0 x.1, x.2)
+register_of b (j ∷ ks) (x ∷ bits) (r ∷ rs) stored k has = elim (has_cases ks j k has) [
+  | inl same ↦ (r, has_first rs r, stored.0 ∙ ap (signal b) same)
+  | inr later ↦ let x = register_of b ks bits rs stored.2 k later in (x.0, has_more rs r x.0 x.1, x.2)
 ]
 
 clocked_written : (old mid : Building) (variables : List ℕ) (bits : List (List Bit)) (registers : List Register) → HasOwnNets old → Extends old mid → AreStored old variables bits registers → (k i : ℕ) → IsWritten (with_registers mid registers) k i → IsWritten old k i ⊎ Contains variables k
@@ -112,6 +101,6 @@ clocked_add old mid variables effect bits registers own e mean stored = record {
   stores = stored_bits old variables bits registers stored;
   joints = [];
   joined = e.joints ∙ sym (append-nil old.joints);
-  joins = λ j has. absurd (contains_none j has);
-  joins_once = λ once n x y has_x has_y. absurd (contains_none (record { net = n; bit = x }) has_x);
+  joins = λ j has. absurd (has_none j has);
+  joins_once = λ once n x y has_x has_y. absurd (has_none (record { net = n; bit = x }) has_x);
 }

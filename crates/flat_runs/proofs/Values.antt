@@ -1,11 +1,6 @@
 -- Bits of numbers, and values of bits.
-use Rattle.std.proofs.Common.{◌≡◌, ℕ, zero, suc, ◌+◌, ◌*◌, ◌/◌, ◌%◌, ◌<◌, Bool, true, false, List, [], ◌∷◌, slice_get, Some, refl, ◌∙◌, ap, arith}
-use Rattle.std.specs.Int.{bit_at}
-use Rattle.std.proofs.lemmas.Nat.Bits.{bit_at-lt, bit_at_lowest, bit_at-suc}
-use Rattle.netlist_core.specs.declared.bit.Bit.{Bit}
-use Rattle.netlist_core.specs.declared.bit.Bit.TheVariants.{Fixed, Net}
-use Rattle.netlist_core.specs.Numbers.{digit, number}
-use Rattle.netlist_core.specs.Runs.{Nets, bit_value, values}
+use Rattle.flat_runs.proofs.Common.{◌≡◌, ℕ, zero, suc, ◌+◌, ◌*◌, ◌/◌, ◌%◌, ◌<◌, Bool, true, false, List, [], ◌∷◌, slice_get, Some, refl, ◌∙◌, ap, arith, bit_at, bit_at-lt, bit_at_lowest, bit_at-suc}
+use Rattle.flat_runs.proofs.Common.{Bit, Fixed, Net, digit, number, Nets, bit_value, values}
 
 pub half_of : (b : Bool) (n : ℕ) → (digit b + 2 * n) / 2 ≡ n
 half_of true n = omega arith

@@ -1,13 +1,7 @@
 -- The runs of small designs.
-use Rattle.std.proofs.Common.{◌≡◌, ℕ, zero, suc, ◌+◌, ◌-◌, ◌%◌, ◌^◌, ◌<◌, List, [], ◌∷◌, Some, refl, sym, ◌∙◌, ap, subst, inl, inr, arith}
-use Rattle.std.specs.List.{Contains}
-use Rattle.std.specs.Int.{bit_at}
-use Rattle.vlog_meaning.specs.Scopes.{Store}
-use Rattle.flat_runs.specs.Meanings.{LeftIs, SameBut}
-use Rattle.flat_runs.specs.Designs.{IsFree, Cycle, IsSourceRun, source_outputs}
-use Rattle.flat_runs.specs.Parts.{places_from}
+use Rattle.flat_runs.proofs.Common.{◌≡◌, ℕ, zero, suc, ◌+◌, ◌-◌, ◌%◌, ◌^◌, ◌<◌, List, [], ◌∷◌, Some, refl, sym, ◌∙◌, ap, subst, inl, inr, arith, Contains, bit_at, Store, LeftIs, SameBut, IsFree}
+use Rattle.flat_runs.proofs.Common.{Cycle, IsSourceRun, source_outputs, places_from, has_first, has_none, has_cases}
 use Rattle.flat_runs.specs.Examples.{at, with_value, successor, SuccessorsAreShown, counter, CounterCounts, constant, StartValueStays, ContradictionHasNoRun, follower, FollowerFollows}
-use Rattle.flat_runs.proofs.Lists.{contains_first, contains_none, contains_cases}
 use Rattle.flat_runs.proofs.Combining.{same_bits, left_bits, bits_left, place_at}
 
 -- a whole signal that has the bits of a value has the value
@@ -47,7 +41,7 @@ successor_cycle a small = record { fits = fits; entered = refl; stored = refl; s
   fits (suc (suc k)) = omega arith
 
   free : (k i : ℕ) → IsFree successor k i → bit_at (at (a ∷ (a + 1) % 4 ∷ []) k) i ≡ bit_at (at [] k) i
-  free zero i f = absurd (f.no_input (contains_first [] 0))
+  free zero i f = absurd (f.no_input (has_first [] 0))
   free (suc zero) i f = absurd (f.none_writes (inl (all_places 1 2 i f.inside)))
   free (suc (suc k)) i f = absurd (let less : i < 0 = f.inside in omega arith)
 
@@ -77,7 +71,7 @@ counter_cycle n small = record { fits = fits; entered = refl; stored = refl; sai
   fits (suc k) = omega arith
 
   free : (k i : ℕ) → IsFree counter k i → bit_at (at (n ∷ []) k) i ≡ bit_at (at [] k) i
-  free zero i f = absurd (f.none_writes (inl (contains_first [] 0)))
+  free zero i f = absurd (f.none_writes (inl (has_first [] 0)))
   free (suc k) i f = absurd (let less : i < 0 = f.inside in omega arith)
 
 pub counter_counts : CounterCounts
@@ -91,7 +85,7 @@ counter_counts = record {
 start_shows : (cycles : List Store) → IsSourceRun constant [] ([] ∷ []) cycles → source_outputs constant cycles ≡ (2 ∷ []) ∷ []
 start_shows [] run = absurd run
 start_shows (s ∷ []) run =
-    let none : (i : ℕ) → i < 2 → IsFree constant 0 i = λ i less. record { inside = less; no_input = contains_none 0; none_writes = λ some. some } in
+    let none : (i : ℕ) → i < 2 → IsFree constant 0 i = λ i less. record { inside = less; no_input = has_none 0; none_writes = λ some. some } in
     let is : s 0 ≡ 2 = same_bits 2 (s 0) 2 (run.0.fits 0) (omega arith) (λ i less. run.0.unwritten 0 i (none i less)) in
     rw is refl
 start_shows (s ∷ t ∷ more) run = absurd run.1
@@ -117,7 +111,7 @@ contradiction_has_no_run (s ∷ t ∷ more) run = run.1
 -- `always @* y = a;`
 
 follower_value : (s : Store) (a : ℕ) → Cycle follower s (a ∷ []) [] → s 1 ≡ a
-follower_value s a c = sym (c.said.0 s (λ k other. refl) 1 (contains_first [] 1)) ∙ head_same (s 0) a [] [] c.entered
+follower_value s a c = sym (c.said.0 s (λ k other. refl) 1 (has_first [] 1)) ∙ head_same (s 0) a [] [] c.entered
 
 follower_shows : (cycles : List Store) → IsSourceRun follower [] ((1 ∷ []) ∷ (0 ∷ []) ∷ []) cycles → source_outputs follower cycles ≡ (1 ∷ []) ∷ (0 ∷ []) ∷ []
 follower_shows [] run = absurd run
@@ -129,7 +123,7 @@ follower_shows (s ∷ t ∷ []) run =
 follower_shows (s ∷ t ∷ u ∷ more) run = absurd run.1.1
 
 is_1 : (k : ℕ) → Contains (1 ∷ []) k → 1 ≡ k
-is_1 k has = elim (contains_cases [] 1 k has) [ inl same ↦ same | inr none ↦ absurd (contains_none k none) ]
+is_1 k has = elim (has_cases [] 1 k has) [ inl same ↦ same | inr none ↦ absurd (has_none k none) ]
 
 follower_cycle : (a : ℕ) → a < 2 → Cycle follower (at (a ∷ a ∷ [])) (a ∷ []) []
 follower_cycle a small = record { fits = fits; entered = refl; stored = refl; said = (said, tt); unwritten = free } where
@@ -142,8 +136,8 @@ follower_cycle a small = record { fits = fits; entered = refl; stored = refl; sa
   said from same k has = subst (λ (n : ℕ). with_value 1 (from 0) from n ≡ at (a ∷ a ∷ []) n) (is_1 k has) (same 0 (λ zero_has. let e : 1 ≡ 0 = is_1 0 zero_has in absurd (omega arith)))
 
   free : (k i : ℕ) → IsFree follower k i → bit_at (at (a ∷ a ∷ []) k) i ≡ bit_at (at [] k) i
-  free zero i f = absurd (f.no_input (contains_first [] 0))
-  free (suc zero) i f = absurd (f.none_writes (inl (contains_first [] 1)))
+  free zero i f = absurd (f.no_input (has_first [] 0))
+  free (suc zero) i f = absurd (f.none_writes (inl (has_first [] 1)))
   free (suc (suc k)) i f = absurd (let less : i < 0 = f.inside in omega arith)
 
 pub follower_follows : FollowerFollows

@@ -1,23 +1,10 @@
 -- Each bit has one writer at most, from item to item.
-use Rattle.std.proofs.Common.{◌≡◌, ◌⊎◌, ℕ, ◌+◌, ◌≤◌, List, [], ◌∷◌, ◌++◌, map, slice_get, Some, refl, sym, ◌∙◌, ap, subst, inl, inr, arith, append_assoc}
-use Rattle.std.specs.List.{Contains}
-use Rattle.std.proofs.lemmas.Bool.{cases_lt}
-use Rattle.std.proofs.lemmas.List.{append-nil}
-use Rattle.std.proofs.lemmas.List.Elements.{Contains-append_cases}
-use Rattle.std.proofs.lemmas.Option.{slice_get_within}
-use Rattle.netlist_core.specs.declared.bit.Bit.{Bit}
-use Rattle.netlist_core.specs.declared.bit.Bit.TheVariants.{Fixed, Net}
-use Rattle.netlist_core.specs.declared.port.Register.{Register}
-use Rattle.netlist_core.specs.Runs.{q_bits}
-use Rattle.netlist_core.specs.Drivers.{times, times_at}
-use Rattle.net_builder.specs.declared.builder.Joint.{Joint}
-use Rattle.net_builder.specs.Building.{Building, signal}
-use Rattle.net_builder.specs.Written.{IsJoined, IsStored}
-use Rattle.flat_runs.specs.Meanings.{Meaning, Assign, Combinational, Clocked, Writes, WritesOnce, Joins, NoneTwice, stored_by, all_stored}
-use Rattle.flat_runs.specs.Adding.{HasOwnNets, IsBit, AddsItem}
+use Rattle.flat_runs.proofs.Common.{◌≡◌, ◌⊎◌, ℕ, ◌+◌, ◌≤◌, List, [], ◌∷◌, ◌++◌, map, slice_get, Some, refl, sym, ◌∙◌, ap, subst, inl, inr, arith, append_assoc, Contains, cases_lt, append-nil}
+use Rattle.flat_runs.proofs.Common.{Contains-append_cases, slice_get_within, Bit, Fixed, Net, Register, q_bits, times, times_at, Joint, Building, signal, IsJoined, IsStored, Meaning, Assign}
+use Rattle.flat_runs.proofs.Common.{Combinational, Clocked, Writes, WritesOnce, Joins, NoneTwice, stored_by, all_stored, HasOwnNets, IsBit, AddsItem, NothingIsWritten, OneWriterStays, OneWriterStarts}
+use Rattle.flat_runs.proofs.Common.{RegistersOfItems, has_first, has_more, has_none, has_cases}
 use Rattle.flat_runs.specs.Writing.{HasOneWriter, IsNew}
-use Rattle.flat_runs.specs.Laws.{NothingIsWritten, OneWriterStays, OneWriterStarts, RegistersOfItems}
-use Rattle.flat_runs.proofs.Lists.{contains_first, contains_more, contains_none, contains_cases, contains_get}
+use Rattle.flat_runs.proofs.Lists.{contains_get}
 use Rattle.flat_runs.proofs.Signals.{bits_in, one_at-cases, times_get, bits_few, are_apart}
 
 -- How often a net stands in ports.
@@ -33,24 +20,24 @@ bits_append (r ∷ rs) more = ap (λ (qs : List (List Bit)). r.q ∷ qs) (bits_a
 -- a net that stands in ports is a bit of one of them
 pub net_in : (n : ℕ) (bits : List Bit) → 1 ≤ times n bits → Contains bits (Net n)
 net_in n [] some = absurd (omega (arith, some))
-net_in n (Fixed b ∷ more) some = contains_more more (Fixed b) (Net n) (net_in n more some)
+net_in n (Fixed b ∷ more) some = has_more more (Fixed b) (Net n) (net_in n more some)
 net_in n (Net m ∷ more) some = elim (one_at-cases m n) [
-  | inl same ↦ subst (λ (k : ℕ). Contains (Net k ∷ more) (Net n)) (sym same.0) (contains_first more (Net n))
-  | inr other ↦ contains_more more (Net m) (Net n) (net_in n more (omega (arith, some, other.1)))
+  | inl same ↦ subst (λ (k : ℕ). Contains (Net k ∷ more) (Net n)) (sym same.0) (has_first more (Net n))
+  | inr other ↦ has_more more (Net m) (Net n) (net_in n more (omega (arith, some, other.1)))
 ]
 
 pub stored_net : (n : ℕ) (rs : List Register) → 1 ≤ times_at n (q_bits rs) → (r : Register) × Contains rs r × Contains r.q (Net n)
 stored_net n [] some = absurd (omega (arith, some))
 stored_net n (r ∷ rs) some = elim (cases_lt (times n r.q) 1) [
-  | inl none ↦ let t = stored_net n rs (omega (arith, some, none)) in (t.0, contains_more rs r t.0 t.1, t.2)
-  | inr here ↦ (r, contains_first rs r, net_in n r.q here)
+  | inl none ↦ let t = stored_net n rs (omega (arith, some, none)) in (t.0, has_more rs r t.0 t.1, t.2)
+  | inr here ↦ (r, has_first rs r, net_in n r.q here)
 ]
 
 pub signal_net : (b : Building) (n : ℕ) (ks : List ℕ) → 1 ≤ times_at n (map (signal b) ks) → (k : ℕ) × (i : ℕ) × Contains ks k × IsBit b k i n
 signal_net b n [] some = absurd (omega (arith, some))
 signal_net b n (k ∷ ks) some = elim (cases_lt (times n (signal b k)) 1) [
-  | inl none ↦ let t = signal_net b n ks (omega (arith, some, none)) in (t.0, t.1, contains_more ks k t.0 t.2, t.3)
-  | inr here ↦ let at = contains_get (signal b k) (Net n) (net_in n (signal b k) here) in (k, at.0, contains_first ks k, at.1)
+  | inl none ↦ let t = signal_net b n ks (omega (arith, some, none)) in (t.0, t.1, has_more ks k t.0 t.2, t.3)
+  | inr here ↦ let at = contains_get (signal b k) (Net n) (net_in n (signal b k) here) in (k, at.0, has_first ks k, at.1)
 ]
 
 -- signals that differ have no net in common
@@ -69,19 +56,19 @@ signals_once b own n (k ∷ ks) once = elim (cases_lt (times n (signal b k)) 1) 
 
 -- a net of a register
 some_q : (rs : List Register) (r : Register) (n : ℕ) → Contains rs r → Contains r.q (Net n) → 1 ≤ times_at n (q_bits rs)
-some_q [] r n has in_q = absurd (contains_none r has)
-some_q (s ∷ rs) r n has in_q = elim (contains_cases rs s r has) [
+some_q [] r n has in_q = absurd (has_none r has)
+some_q (s ∷ rs) r n has in_q = elim (has_cases rs s r has) [
   | inl same ↦ (let at = contains_get r.q (Net n) in_q in let one : 1 ≤ times n r.q = times_get r.q at.0 n at.1 in let is : times n s.q ≡ times n r.q = ap (λ (x : Register). times n x.q) same in omega (arith, one, is))
   | inr later ↦ omega (arith, some_q rs r n later in_q)
 ]
 
 signal_q : (b : Building) (rs : List Register) (ks : List ℕ) → q_bits rs ≡ map (signal b) ks → (r : Register) → Contains rs r → (k : ℕ) × (r.q ≡ signal b k)
-signal_q b [] ks is r has = absurd (contains_none r has)
+signal_q b [] ks is r has = absurd (has_none r has)
 signal_q b (s ∷ rs) [] is r has = absurd cc
 signal_q b (s ∷ rs) (k ∷ ks) is r has =
     let first : s.q ≡ signal b k = cc in
     let rest : q_bits rs ≡ map (signal b) ks = cc in
-    elim (contains_cases rs s r has) [
+    elim (has_cases rs s r has) [
       | inl same ↦ (k, subst (λ (x : Register). x.q ≡ signal b k) same first)
       | inr later ↦ signal_q b rs ks rest r later
     ]
@@ -89,8 +76,8 @@ signal_q b (s ∷ rs) (k ∷ ks) is r has =
 -- What an item joins or stores it writes.
 
 stored_writes : (m : Meaning) (k i : ℕ) → Contains (stored_by m) k → Writes m k i
-stored_writes (Assign left value) k i has = absurd (contains_none k has)
-stored_writes (Combinational variables effect) k i has = absurd (contains_none k has)
+stored_writes (Assign left value) k i has = absurd (has_none k has)
+stored_writes (Combinational variables effect) k i has = absurd (has_none k has)
 stored_writes (Clocked variables effect) k i has = has
 
 joins_writes : (m : Meaning) (k i : ℕ) → Joins m k i → Writes m k i
@@ -105,8 +92,8 @@ stored_once (Clocked variables effect) once = once
 
 -- an item does not join and store
 not_both : (m : Meaning) (k i j : ℕ) → Joins m k i → Contains (stored_by m) j → ⊥
-not_both (Assign left value) k i j joins has = contains_none j has
-not_both (Combinational variables effect) k i j joins has = contains_none j has
+not_both (Assign left value) k i j joins has = has_none j has
+not_both (Combinational variables effect) k i j joins has = has_none j has
 not_both (Clocked variables effect) k i j joins has = joins
 
 -- One item more.
@@ -227,13 +214,13 @@ pub nothing_written : NothingIsWritten
 nothing_written b inputs no_joints no_registers = record {
   joined = λ n j. absurd (unjoined n j);
   once = λ n x y has_x has_y. absurd (unjoined n (x, has_x));
-  stored = λ r has. absurd (contains_none r (subst (λ (rs : List Register). Contains rs r) no_registers has));
+  stored = λ r has. absurd (has_none r (subst (λ (rs : List Register). Contains rs r) no_registers has));
   apart = λ n. subst (λ (rs : List Register). times_at n (q_bits rs) ≤ 1) (sym no_registers) (omega arith);
   single = λ n j s. unjoined n j;
-  no_input = λ n k i written at has. elim written [ inl j ↦ unjoined n j | inr s ↦ contains_none s.0 (subst (λ (rs : List Register). Contains rs s.0) no_registers s.1) ];
+  no_input = λ n k i written at has. elim written [ inl j ↦ unjoined n j | inr s ↦ has_none s.0 (subst (λ (rs : List Register). Contains rs s.0) no_registers s.1) ];
 } where
   unjoined : (n : ℕ) → IsJoined b n → ⊥
-  unjoined n j = contains_none (record { net = n; bit = j.0 }) (subst (λ (js : List Joint). Contains js (record { net = n; bit = j.0 })) no_joints j.1)
+  unjoined n j = has_none (record { net = n; bit = j.0 }) (subst (λ (js : List Joint). Contains js (record { net = n; bit = j.0 })) no_joints j.1)
 
 map_append : (f : ℕ → List Bit) (xs ys : List ℕ) → map f (xs ++ ys) ≡ map f xs ++ map f ys
 map_append f [] ys = refl

@@ -4,13 +4,13 @@ use Rattle.std.specs.List.{Contains}
 use Rattle.std.specs.Int.{bit_at}
 use Rattle.netlist_core.specs.declared.bit.Bit.{Bit}
 use Rattle.netlist_core.specs.declared.bit.Bit.TheVariants.{Fixed, Net}
-use Rattle.netlist_core.specs.declared.cell.Cell.{Cell}
 use Rattle.netlist_core.specs.declared.port.Port.{Port}
 use Rattle.netlist_core.specs.declared.port.Register.{Register}
 use Rattle.netlist_core.specs.declared.raw.RawNetlist.{RawNetlist}
 use Rattle.netlist_core.specs.Numbers.{digit}
 use Rattle.netlist_core.specs.Runs.{bits_at}
 use Rattle.net_builder.specs.Building.{Building, signal, start_bits}
+pub use Rattle.net_builder.specs.Finished.{led, all_led, led_cell}
 use Rattle.flat_runs.specs.Designs.{Design}
 use Rattle.net_builder.specs.Written.{IsJoined, IsStored}
 use Rattle.flat_runs.specs.Adding.{IsBit, IsWritten, HasOwnNets}
@@ -33,17 +33,6 @@ pub data LeadsTo (b : Building) (design : Design) : ℕ → Bit → Type 0 where
   unwritten : (n k i : ℕ) (v : Bool) → IsBit b k i n → ¬ Contains design.inputs k → ¬ IsWritten b k i → bit_at (design.start k) i ≡ digit v → LeadsTo b design n (Fixed v)
   to_constant : (n : ℕ) (v : Bool) → Contains b.joints (record { net = n; bit = Fixed v }) → LeadsTo b design n (Fixed v)
   to_net : (n m : ℕ) (end : Bit) → Contains b.joints (record { net = n; bit = Net m }) → LeadsTo b design m end → LeadsTo b design n end
-
--- a bit, the bits of a port, and the ports of a cell, led
-abbrev pub led : (ℕ → Bit) → Bit → Bit
-led to (Fixed b) = Fixed b
-led to (Net n) = to n
-
-abbrev pub all_led : (ℕ → Bit) → List Bit → List Bit
-all_led to bits = map (led to) bits
-
-abbrev pub led_cell : (ℕ → Bit) → Cell → Cell
-led_cell to cell = record cell { ports = map (all_led to) cell.ports }
 
 -- the first of these registers with this Q
 abbrev pub IsFirstWith : List Bit → List Register → Register → Type 0

@@ -1,16 +1,9 @@
 -- One item more.
-use Rattle.std.proofs.Common.{◌≡◌, ◌≤◌, ℕ, zero, suc, List, [], ◌∷◌, length, drop, Option, refl, sym, subst, arith}
-use Rattle.mcy_base.specs.declared.span.Span.{Span}
-use Rattle.vlog_syntax.specs.declared.expr.Expr.{Expr}
-use Rattle.vlog_syntax.specs.declared.identifier.Identifier.{Identifier}
+use Rattle.flat_scopes.proofs.Common.{◌≡◌, ◌≤◌, ℕ, zero, suc, List, [], ◌∷◌, length, drop, Option, refl, sym, subst, arith, Span, Expr, Identifier, Item, out-Item, PlainItem, Names, Opened, declared}
+use Rattle.flat_scopes.proofs.Common.{labels_of, body_labels, merged, construct, Opens, opened, open_plain, open_region, open_loop, open_if, open_block, open_null}
 use Rattle.vlog_syntax.specs.declared.item.GenerateLoop.{GenerateLoop}
-use Rattle.vlog_syntax.specs.declared.item.Item.{Item, out-Item}
 use Rattle.vlog_syntax.specs.declared.item.Item.TheVariants as i
-use Rattle.vlog_syntax.specs.declared.item.PlainItem.{PlainItem}
-use Rattle.vlog_meaning.specs.Scopes.{Names}
 use Rattle.flat_scopes.specs.declared.opening.Head.{Head}
-use Rattle.flat_scopes.specs.Openings.{Opened}
-use Rattle.flat_scopes.specs.Opens.{declared, labels_of, body_labels, merged, construct, Opens, opened, open_plain, open_region, open_loop, open_if, open_block, open_null}
 
 module _ (h : Head) (outside : Names) (o n : Opened) (item : Item) where
   -- what is left of the items from here gives the same end

@@ -1,16 +1,10 @@
 -- Labels that are merged one list after the other, and whether a name is one of them.
-use Rattle.std.proofs.Common.{◌≡◌, ℕ, Bool, true, false, ◌||◌, List, [], ◌∷◌, ◌++◌, Option, Some, refl, sym, ap, ◌∙◌}
-use Rattle.std.specs.Str.{bytes_eq}
-use Rattle.mcy_base.specs.declared.span.Span.{Span}
-use Rattle.vlog_syntax.specs.declared.expr.Expr.{Expr}
-use Rattle.vlog_syntax.specs.declared.identifier.Identifier.{Identifier}
-use Rattle.vlog_syntax.specs.declared.item.Item.{Item}
+use Rattle.flat_scopes.proofs.Common.{◌≡◌, ℕ, Bool, true, false, ◌||◌, List, [], ◌∷◌, ◌++◌, Option, Some, refl, sym, ap, ◌∙◌, bytes_eq, Span, Expr, Identifier, Item, is_among, labels_step, merged}
+use Rattle.flat_scopes.proofs.Common.{with_label, labels_of}
 use Rattle.vlog_syntax.specs.declared.item.Item.TheVariants as i
 use Rattle.vlog_syntax.specs.declared.item.Item.TheOpen as t
 use Rattle.vlog_syntax.specs.declared.item.Item.TheFolds.{fold-roll-Item}
 use Rattle.vlog_syntax.specs.declared.item.Item.TheViews.{rolls-IfGenerate}
-use Rattle.flat_scopes.specs.Known.{is_among}
-use Rattle.flat_scopes.specs.Opens.{labels_step, merged, with_label, labels_of}
 
 pub merged_twice : (xs ys zs : List Identifier) → merged (merged xs ys) zs ≡ merged xs (ys ++ zs)
 merged_twice xs [] zs = refl
@@ -26,7 +20,7 @@ both_merged xs ys zs item a b c d second at condition e f p q g h =
     let there : item ≡ i.IfGenerate at condition c (Some d) = e ∙ ap (λ (s : Option Item). i.IfGenerate at condition a s) f ∙ ap (λ (x : Item). i.IfGenerate at condition x (Some b)) (sym p) ∙ ap (λ (x : Item). i.IfGenerate at condition c (Some x)) (sym q) in
     h ∙ ap (λ (l : List Identifier). merged l (labels_of d)) g ∙ merged_twice xs (labels_of c) (labels_of d) ∙ ap (merged xs) (sym (labels_both at condition c d)) ∙ ap (λ (x : Item). merged xs (labels_of x)) (sym there)
 
-or_more : (a b c : Bool) → (a || (b || c)) ≡ ((a || b) || c)
+pub or_more : (a b c : Bool) → (a || (b || c)) ≡ ((a || b) || c)
 or_more true b c = refl
 or_more false b c = refl
 

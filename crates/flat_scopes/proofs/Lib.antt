@@ -1,6 +1,7 @@
+mod Common
 mod ItemLemmas
 mod Known
-mod Labels
+pub mod Labels
 mod Owned
-mod Valued
+pub mod Valued
 mod Whole

@@ -1,17 +1,12 @@
 -- A look-up in the map of a scope's own names.
-use Rattle.std.proofs.Common.{◌≡◌, ℕ, List, [], ◌∷◌, map, refl, sym, ap, ◌∙◌, subst, cond}
+use Rattle.flat_scopes.proofs.Common.{◌≡◌, ℕ, List, [], ◌∷◌, map, refl, sym, ap, ◌∙◌, subst, cond, bytes_eq, String, Global, btree_map_updates_text, is_eq-slice_cmp}
 use Rattle.std.proofs.Math.Path.{fun_ext}
 use Rattle.std.specs.Map.{lookup}
 use Rattle.std.specs.BTreeMap.{BTreeMap, UpdatesBy, is_at}
 use Rattle.std.specs.String.{string_bytes, string_cmp}
-use Rattle.std.specs.Str.{bytes_eq}
 use Rattle.std.specs.Cmp.Lexicographic.{slice_cmp}
 use Rattle.std.specs.Ordering.{nat_cmp}
-use Rattle.std.specs.declared.string.String.{String}
-use Rattle.std.specs.declared.alloc.Global.{Global}
 use Rattle.std.specs.Prelude.{Option, Some}
-use Rattle.std.proofs.lemmas.Map.Text.{btree_map_updates_text}
-use Rattle.std.proofs.lemmas.Map.Text.{is_eq-slice_cmp}
 use Rattle.flat_scopes.specs.declared.signal.What.{What}
 use Rattle.flat_scopes.specs.Owns.{what_of, own_entry, with_own}
 

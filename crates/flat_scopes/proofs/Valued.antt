@@ -1,26 +1,17 @@
 -- The value of a parameter, and a word of its own width and bits.
-use Rattle.std.proofs.Common.{◌≡◌, ◌≤◌, ◌<◌, ◌%◌, ◌^◌, ◌||◌, ℕ, Bool, Option, None, Some, refl, sym, ap, ◌∙◌, subst, arith, true≢false, mod-eq_of_lt}
+use Rattle.flat_scopes.proofs.Common.{◌≡◌, ◌≤◌, ◌<◌, ◌%◌, ◌^◌, ◌||◌, ℕ, Bool, Option, None, Some, refl, sym, ap, ◌∙◌, subst, arith, true≢false, mod-eq_of_lt, option_map, is_some, Expr, Identifier}
+use Rattle.flat_scopes.proofs.Common.{ConstError, Fault, const_error, nothing, Sense, own, assigned, Opened, step, declared_as, valued, constant_name, zero_as, value_fault}
 use Rattle.std.specs.Coded.{le_prop}
-use Rattle.std.specs.Option.{option_map, is_some}
-use Rattle.vlog_syntax.specs.declared.expr.Expr.{Expr}
-use Rattle.vlog_syntax.specs.declared.identifier.Identifier.{Identifier}
 use Rattle.mcy_base.specs.declared.word.Word.{Word}
-use Rattle.vlog_meaning.specs.declared.fault.ConstError.{ConstError}
-use Rattle.vlog_meaning.specs.declared.fault.Fault.{Fault}
 use Rattle.vlog_meaning.specs.declared.scope.Decl.{Decl}
 use Rattle.vlog_meaning.specs.declared.scope.Decl.TheVariants as d
-use Rattle.vlog_meaning.specs.Answers.{const_error}
-use Rattle.vlog_meaning.specs.Scopes.{nothing}
-use Rattle.vlog_meaning.specs.Senses.{Sense, own, assigned}
 use Rattle.flat_scopes.specs.declared.parameter.ParameterBits.{ParameterBits}
 use Rattle.flat_scopes.specs.declared.parameter.ParameterBits.TheVariants.{OfValue, OfRange}
-use Rattle.flat_scopes.specs.Openings.{Opened, step}
 use Rattle.flat_scopes.specs.Parameters.{IsDeclared}
 use Rattle.flat_scopes.specs.Words.{word, width_in}
-use Rattle.flat_scopes.specs.Valued.{declared_as, valued, constant_name, zero_as, value_fault}
 
 -- two words of one width and the same bits
-same_parts : (u v : Word) → u.width ≡ v.width → u.bits ≡ v.bits → u ≡ v
+pub same_parts : (u v : Word) → u.width ≡ v.width → u.bits ≡ v.bits → u ≡ v
 same_parts u v p q =
     let At : (w b : ℕ) → Type 0 = λ (w b : ℕ). (some : 1 ≤ w) (narrow : w ≤ 128) (fits : b < 2 ^ w) → u ≡ record { width = w; bits = b; some = some; narrow = narrow; fits = fits } in
     let by_some : (1 ≤ u.width) → Word = λ s. record { width = u.width; bits = u.bits; some = s; narrow = u.narrow; fits = u.fits } in

@@ -1,10 +1,5 @@
 -- Where a call gave no refusal, there was none to give.
-use Rattle.std.proofs.Common.{◌≡◌, List, [], ℤ, Option, None, Some, true≢false, refl, sym, ap, ◌∙◌}
-use Rattle.std.specs.Option.{option_map, is_some}
-use Rattle.mcy_base.specs.declared.span.Span.{Span}
-use Rattle.vlog_meaning.specs.declared.fault.ConstError.{ConstError}
-use Rattle.vlog_meaning.specs.declared.fault.Fault.{Fault}
-use Rattle.vlog_meaning.specs.Answers.{least, const_error}
+use Rattle.flat_scopes.proofs.Common.{◌≡◌, List, [], ℤ, Option, None, Some, true≢false, refl, sym, ap, ◌∙◌, option_map, is_some, Span, ConstError, Fault, least, const_error}
 use Rattle.flat_scopes.specs.Ranges.{bits_between, bits_of_bounds}
 
 pub none-refused : (e : ConstError) (faults : List Fault) → faults ≡ [] → Some e ≡ option_map const_error (least faults) → ⊥

@@ -11,6 +11,8 @@ abbrev pub is_among : List Identifier → List ℕ → Bool
 is_among [] name = false
 is_among (x ∷ more) name = bytes_eq x.name name || is_among more name
 
+-- For proofs alone.
+
 -- the set has the names of the list, and no others
 abbrev pub AreKnown : List Identifier → BTreeSet (String Global) → Type 0
 AreKnown names known = (name : List ℕ) → contains_text known name ≡ is_among names name

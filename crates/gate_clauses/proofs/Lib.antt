@@ -1,3 +1,4 @@
+mod Common
 pub mod Models
 pub mod Pushing
 pub mod Settling

@@ -1,16 +1,11 @@
 -- The clauses of gates are true exactly where the gates hold.
-use Rattle.std.proofs.Common.{◌≡◌, ℕ, suc, ◌<◌, ◌⊎◌, inl, inr, Bool, true, false, not, ◌&&◌, ◌||◌, List, [], ◌∷◌, refl, sym, ◌∙◌, arith, true≢false, ℤ, pos, if◌then◌else◌, ◌↔◌}
+use Rattle.gate_clauses.proofs.Common.{◌≡◌, ℕ, suc, ◌<◌, ◌⊎◌, inl, inr, Bool, true, false, not, ◌&&◌, ◌||◌, List, [], ◌∷◌, refl, sym, ◌∙◌, arith, true≢false, ℤ, pos, if◌then◌else◌, ◌↔◌}
+use Rattle.gate_clauses.proofs.Common.{AllPass-from_list_all, list_all-from_AllPass, Values, value, IsModel, Gate, And, Xor, Mux, GateLit, Fixed, Var, Gates, Reads, AreOrdered, gate_value, HoldFrom}
+use Rattle.gate_clauses.proofs.Common.{Hold, value-neg, gate_clauses, clauses_from, has_one, open_lits, one_true, miter_clauses, IsSome}
 use Rattle.std.specs.List.{list_any, list_all}
-use Rattle.std.proofs.lemmas.List.Sums.{AllPass-from_list_all, list_all-from_AllPass}
 use Rattle.std.proofs.lemmas.List.Folds.{list_all-append}
-use Rattle.clause_store.specs.Clauses.{Values, value, IsModel}
-use Rattle.gate_list.specs.declared.gate.Gate.{Gate}
-use Rattle.gate_list.specs.declared.gate.Gate.TheVariants.{And, Xor, Mux}
-use Rattle.gate_list.specs.declared.literal.GateLit.{GateLit}
-use Rattle.gate_list.specs.declared.literal.GateLit.TheVariants.{Fixed, Var}
-use Rattle.gate_list.specs.Gates.{Gates, Reads, AreOrdered, gate_value, HoldFrom, Hold}
-use Rattle.gate_list.proofs.Adding.{value-neg}
-use Rattle.gate_clauses.specs.Encoding.{gate_clauses, clauses_from, has_one, open_lits, one_true, miter_clauses, IsSome}
+use Rattle.std.proofs.lemmas.Bool.{or_cases, or_left, or_right}
+use Rattle.gate_list.proofs.Same.{both}
 
 -- whether every clause is true
 abbrev all_true : Values → List (List ℤ) → Bool
@@ -30,11 +25,6 @@ equal-same true true e = refl
 equal-same true false e = absurd (true≢false e)
 equal-same false true e = absurd (true≢false (sym e))
 equal-same false false e = refl
-
-both : (a b : Bool) → (a && b) ≡ true → (a ≡ true) × (b ≡ true)
-both true true e = (refl, refl)
-both true false e = absurd (true≢false (sym e))
-both false b e = absurd (true≢false (sym e))
 
 joined : (a b : Bool) → a ≡ true → b ≡ true → (a && b) ≡ true
 joined true true p q = refl
@@ -104,18 +94,6 @@ one-some values (Fixed true ∷ more) e = inl refl
 one-some values (Fixed false ∷ more) e = inr (one-some values more e)
 one-some values (Var l ∷ more) e = inr (one-some values more e)
 
-or-cases : (b c : Bool) → (b || c) ≡ true → (b ≡ true) ⊎ (c ≡ true)
-or-cases true c e = inl refl
-or-cases false c e = inr e
-
-or-left : (b c : Bool) → b ≡ true → (b || c) ≡ true
-or-left true c e = refl
-or-left false c e = absurd (true≢false (sym e))
-
-or-right : (b c : Bool) → c ≡ true → (b || c) ≡ true
-or-right true c e = refl
-or-right false c e = e
-
 some-of : (values : Values) (l : ℤ) (more : List GateLit) → (list_any (value values) (open_lits more) ≡ true → IsSome values more) → (value values l ≡ true) ⊎ (list_any (value values) (open_lits more) ≡ true) → IsSome values (Var l ∷ more)
 some-of values l more rest (inl e) = inl e
 some-of values l more rest (inr e) = inr (rest e)
@@ -123,15 +101,15 @@ some-of values l more rest (inr e) = inr (rest e)
 open-some : (values : Values) (lits : List GateLit) → list_any (value values) (open_lits lits) ≡ true → IsSome values lits
 open-some values [] e = absurd (true≢false (sym e))
 open-some values (Fixed b ∷ more) e = inr (open-some values more e)
-open-some values (Var l ∷ more) e = some-of values l more (open-some values more) (or-cases (value values l) (list_any (value values) (open_lits more)) e)
+open-some values (Var l ∷ more) e = some-of values l more (open-some values more) (or_cases (value values l) (list_any (value values) (open_lits more)) e)
 
 some-open : (values : Values) (lits : List GateLit) → has_one lits ≡ false → IsSome values lits → list_any (value values) (open_lits lits) ≡ true
 some-open values [] none some = absurd some
 some-open values (Fixed true ∷ more) none some = absurd (true≢false none)
 some-open values (Fixed false ∷ more) none (inl e) = absurd (true≢false (sym e))
 some-open values (Fixed false ∷ more) none (inr rest) = some-open values more none rest
-some-open values (Var l ∷ more) none (inl e) = or-left (value values l) (list_any (value values) (open_lits more)) e
-some-open values (Var l ∷ more) none (inr rest) = or-right (value values l) (list_any (value values) (open_lits more)) (some-open values more none rest)
+some-open values (Var l ∷ more) none (inl e) = or_left (value values l) (list_any (value values) (open_lits more)) e
+some-open values (Var l ∷ more) none (inr rest) = or_right (value values l) (list_any (value values) (open_lits more)) (some-open values more none rest)
 
 and-one : (b : Bool) → (b && true) ≡ b
 and-one true = refl

@@ -1,13 +1,6 @@
 -- Clauses pushed one after the other.
-use Rattle.std.proofs.Common.{◌≡◌, ℕ, zero, suc, ◌+◌, ◌*◌, ◌<◌, ◌≤◌, List, [], ◌∷◌, ◌++◌, length, get_or, take, refl, ap, sym, arith, sum_by, ℤ, pos, neg_ℤ}
-use Rattle.std.proofs.lemmas.List.{append_assoc, length-append, append-nil, take_more, length-take}
-use Rattle.std.proofs.lemmas.List.Sums.{sum_by-append}
-use Rattle.gate_list.specs.declared.gate.Gate.{Gate}
-use Rattle.gate_list.specs.declared.gate.Gate.TheVariants.{And, Xor, Mux}
-use Rattle.gate_list.specs.Gates.{Reads, AreOrdered}
-use Rattle.gate_list.specs.declared.literal.GateLit.{GateLit}
-use Rattle.gate_list.specs.declared.literal.GateLit.TheVariants.{Fixed, Var}
-use Rattle.gate_clauses.specs.Encoding.{gate_clauses, clauses_from, open_lits}
+use Rattle.gate_clauses.proofs.Common.{◌≡◌, ℕ, zero, suc, ◌+◌, ◌*◌, ◌<◌, ◌≤◌, List, [], ◌∷◌, ◌++◌, length, get_or, take, refl, ap, sym, arith, sum_by, ℤ, pos, neg_ℤ, append_assoc, length-append}
+use Rattle.gate_clauses.proofs.Common.{append-nil, take_more, length-take, sum_by-append, Gate, And, Xor, Mux, Reads, AreOrdered, GateLit, Fixed, Var, gate_clauses, clauses_from, open_lits}
 
 pub pushed_three : (a b c d : List (List ℤ)) (x y z : List ℤ) → b ≡ a ++ x ∷ [] → c ≡ b ++ y ∷ [] → d ≡ c ++ z ∷ [] → d ≡ a ++ x ∷ y ∷ z ∷ []
 pushed_three a b c d x y z first second third = rw (third, second, first, append_assoc (a ++ x ∷ []) (y ∷ []) (z ∷ []), append_assoc a (x ∷ []) (y ∷ z ∷ [])) refl

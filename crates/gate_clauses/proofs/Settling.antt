@@ -1,19 +1,11 @@
 -- Known values of what a gate reads make one of its clauses unit, and the miter's clauses name its variables alone.
-use Rattle.std.proofs.Common.{◌≡◌, ◌≢◌, ℕ, zero, suc, ◌+◌, ◌^◌, ◌<◌, ◌≤◌, ◌⊎◌, inl, inr, Bool, true, false, not, List, [], ◌∷◌, ◌++◌, length, refl, ap, subst, arith, ℤ, pos, negsuc, neg_ℤ, All, Option, Some, None, option_map, sum_by, eqb}
-use Rattle.std.proofs.lemmas.List.{length-append, append_assoc}
+use Rattle.gate_clauses.proofs.Common.{◌≡◌, ◌≢◌, ℕ, zero, suc, ◌+◌, ◌^◌, ◌<◌, ◌≤◌, ◌⊎◌, inl, inr, Bool, true, false, not, List, [], ◌∷◌, ◌++◌, length, refl, ap, subst, arith, ℤ, pos, negsuc, neg_ℤ}
+use Rattle.gate_clauses.proofs.Common.{All, Option, Some, None, option_map, sum_by, eqb, length-append, append_assoc, sum_by-append, variable, AreOver, Gate, And, Xor, Mux, GateLit, Fixed, Var, Gates}
+use Rattle.gate_clauses.proofs.Common.{count, IsLiteral, IsLit, Reads, AreOrdered, literal-neg, gate_clauses, clauses_from, has_one, open_lits, one_true, miter_clauses}
 use Rattle.std.proofs.lemmas.List.Elements.{All-append}
 use Rattle.std.proofs.lemmas.Bool.Decides.{eqb_tells}
-use Rattle.std.proofs.lemmas.List.Sums.{sum_by-append}
-use Rattle.clause_store.specs.Clauses.{variable, AreOver}
 use Rattle.clause_store.specs.Propagation.{Known, literal, IsQuiet}
 use Rattle.clause_encoder.specs.Miters.{IsMiter}
-use Rattle.gate_list.specs.declared.gate.Gate.{Gate}
-use Rattle.gate_list.specs.declared.gate.Gate.TheVariants.{And, Xor, Mux}
-use Rattle.gate_list.specs.declared.literal.GateLit.{GateLit}
-use Rattle.gate_list.specs.declared.literal.GateLit.TheVariants.{Fixed, Var}
-use Rattle.gate_list.specs.Gates.{Gates, count, IsLiteral, IsLit, Reads, AreOrdered}
-use Rattle.gate_list.proofs.Adding.{literal-neg}
-use Rattle.gate_clauses.specs.Encoding.{gate_clauses, clauses_from, has_one, open_lits, one_true, miter_clauses}
 use Rattle.gate_clauses.proofs.Pushing.{clauses-few, open-few}
 
 known-neg : (known : Known) (l : ℤ) → 0 < variable l → literal known (neg_ℤ l) ≡ option_map not (literal known l)

@@ -1,15 +1,8 @@
 -- What each operation adds.
-use Rattle.std.proofs.Common.{◌≡◌, ℕ, zero, suc, ◌<◌, Bool, true, false, not, [], ◌∷◌, length, get_or, refl, ap, sym, subst, ◌∙◌, arith, true≢false, ℤ, pos, negsuc, neg_ℤ, int_eq, if◌then◌else◌, nat_le}
-use Rattle.std.specs.List.{list_any, position_or_len}
-use Rattle.std.specs.Cmp.{signed_Decides}
-use Rattle.std.proofs.lemmas.List.{length-append, append-nil}
-use Rattle.clause_store.specs.Clauses.{variable, Values, value}
-use Rattle.gate_list.specs.declared.gate.Gate.{Gate}
-use Rattle.gate_list.specs.declared.gate.Gate.TheVariants.{And, Xor, Mux}
-use Rattle.gate_list.specs.declared.literal.GateLit.{GateLit}
+use Rattle.gate_list.proofs.Common.{◌≡◌, ℕ, zero, suc, ◌<◌, Bool, true, false, not, [], ◌∷◌, length, get_or, refl, ap, sym, subst, ◌∙◌, arith, true≢false, ℤ, pos, negsuc, neg_ℤ, int_eq, if◌then◌else◌}
+use Rattle.gate_list.proofs.Common.{nat_le, list_any, position_or_len, signed_Decides, length-append, append-nil, variable, Values, value, Gate, And, Xor, Mux, GateLit, Gates, count, IsLiteral, IsLit}
+use Rattle.gate_list.proofs.Common.{Reads, lit_value, gate_value, Adds, Made, negated, negated_if, same_gate, with_gate, and_of, or_of, xor_gate, differ_in_sign, xor_of, mux_at, same_lit, mux_of}
 use Rattle.gate_list.specs.declared.literal.GateLit.TheVariants.{Fixed, Var}
-use Rattle.gate_list.specs.Gates.{Gates, count, IsLiteral, IsLit, Reads, lit_value, gate_value, Adds}
-use Rattle.gate_list.specs.Folding.{Made, negated, negated_if, same_gate, with_gate, and_of, or_of, xor_gate, differ_in_sign, xor_of, mux_at, same_lit, mux_of}
 use Rattle.gate_list.proofs.Same.{same-equal, first-passes, none-passes}
 use Rattle.gate_list.proofs.Values.{hold-at, hold-last}
 

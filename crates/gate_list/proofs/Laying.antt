@@ -1,10 +1,7 @@
 -- The values that the free bits give to gates.
-use Rattle.std.proofs.Common.{◌≡◌, ◌≢◌, ℕ, suc, ◌+◌, ◌<◌, ◌⊎◌, inl, inr, Bool, true, false, not, List, [], ◌∷◌, length, refl, ap, sym, ◌∙◌, arith, ℤ, pos, negsuc, if◌then◌else◌, eqb}
+use Rattle.gate_list.proofs.Common.{◌≡◌, ◌≢◌, ℕ, suc, ◌+◌, ◌<◌, ◌⊎◌, inl, inr, Bool, true, false, not, List, [], ◌∷◌, length, refl, ap, sym, ◌∙◌, arith, ℤ, pos, negsuc, if◌then◌else◌, eqb, Values}
+use Rattle.gate_list.proofs.Common.{value, Gate, And, Xor, Mux, IsLiteral, Reads, AreOrdered, gate_value, HoldFrom}
 use Rattle.std.proofs.lemmas.Bool.Decides.{eqb_tells}
-use Rattle.clause_store.specs.Clauses.{Values, value}
-use Rattle.gate_list.specs.declared.gate.Gate.{Gate}
-use Rattle.gate_list.specs.declared.gate.Gate.TheVariants.{And, Xor, Mux}
-use Rattle.gate_list.specs.Gates.{IsLiteral, Reads, AreOrdered, gate_value, HoldFrom}
 use Rattle.gate_list.specs.Laws.{AgreeUpTo, GatesHaveValues, GatesHaveOneValue}
 
 -- the values, but for one variable

@@ -1,11 +1,6 @@
 -- The derived test of two gates is that of the definition, and it is equality.
-use Rattle.std.proofs.Common.{◌≡◌, suc, ◌+◌, ◌<◌, Bool, true, false, not, ◌&&◌, List, [], ◌∷◌, length, get_or, refl, ap, sym, ◌∙◌, arith, true≢false, int_eq}
-use Rattle.std.specs.List.{list_any, prefix_len, position_or_len}
-use Rattle.std.specs.Cmp.{signed_Decides}
-use Rattle.gate_list.specs.declared.gate.Gate.{Gate}
-use Rattle.gate_list.specs.declared.gate.Gate.TheVariants.{And, Xor, Mux}
-use Rattle.gate_list.specs.Folding.{same_gate}
-use Rattle.gate_list.specs.contracts.gate.GatePartialEq.TheImpl.{eq-value}
+use Rattle.gate_list.proofs.Common.{◌≡◌, suc, ◌+◌, ◌<◌, Bool, true, false, not, ◌&&◌, List, [], ◌∷◌, length, get_or, refl, ap, sym, ◌∙◌, arith, true≢false, int_eq, list_any, prefix_len}
+use Rattle.gate_list.proofs.Common.{position_or_len, signed_Decides, Gate, And, Xor, Mux, same_gate, eq-value}
 
 pub same-is : (g h : Gate) → eq-value.it g h ≡ same_gate g h
 same-is (And a b) (And c d) = refl
@@ -29,7 +24,7 @@ prefix-agree p q same (x ∷ xs) = rw (same x, prefix-agree p q same xs) refl
 pub position-agree : {X : Type 0} (p q : X → Bool) → ((x : X) → p x ≡ q x) → (xs : List X) → position_or_len p xs ≡ position_or_len q xs
 position-agree p q same xs = prefix-agree (λ x. not (p x)) (λ x. not (q x)) (λ x. ap not (same x)) xs
 
-both : (a b : Bool) → (a && b) ≡ true → (a ≡ true) × (b ≡ true)
+pub both : (a b : Bool) → (a && b) ≡ true → (a ≡ true) × (b ≡ true)
 both true true e = (refl, refl)
 both true false e = absurd (true≢false (sym e))
 both false b e = absurd (true≢false (sym e))

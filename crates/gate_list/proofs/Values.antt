@@ -1,8 +1,5 @@
 -- Lists of gates: what one more gate changes.
-use Rattle.std.proofs.Common.{◌≡◌, ℕ, zero, suc, ◌+◌, ◌<◌, List, [], ◌∷◌, ◌++◌, length, get_or, ap, subst, ◌∙◌, arith}
-use Rattle.clause_store.specs.Clauses.{Values}
-use Rattle.gate_list.specs.declared.gate.Gate.{Gate}
-use Rattle.gate_list.specs.Gates.{Reads, AreOrdered, gate_value, HoldFrom}
+use Rattle.gate_list.proofs.Common.{◌≡◌, ℕ, zero, suc, ◌+◌, ◌<◌, List, [], ◌∷◌, ◌++◌, length, get_or, ap, subst, ◌∙◌, arith, Values, Gate, Reads, AreOrdered, gate_value, HoldFrom}
 
 pub ordered-push : (most : ℕ) (gates : List Gate) (gate : Gate) → AreOrdered most gates → Reads (most + length gates) gate → AreOrdered most (gates ++ gate ∷ [])
 ordered-push most [] gate ordered reads = (subst (λ n. Reads n gate) (omega arith) reads, tt)

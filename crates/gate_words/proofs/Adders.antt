@@ -1,23 +1,10 @@
 -- What sums, orders and equality add, and how loops make them.
-use Rattle.std.proofs.Common.{◌≡◌, ℕ, suc, ◌+◌, ◌-◌, ◌*◌, ◌%◌, ◌^◌, ◌<◌, ◌≤◌, Bool, true, false, not, List, [], ◌∷◌, ◌++◌, length, map, drop, get_or, refl, sym, ap, subst, ◌∙◌, append_assoc, arith}
-use Rattle.std.specs.Prelude.{nat_le, nat_lt, nat_eq}
-use Rattle.std.specs.List.{All}
-use Rattle.std.proofs.lemmas.List.{drop_more, drop_all, length-map, length-drop, append-nil}
-use Rattle.std.proofs.lemmas.List.Elements.{All-nil, All-cons, All-head, All-tail, All-map, All-weaker}
-use Rattle.clause_store.specs.Clauses.{Values}
-use Rattle.netlist_core.specs.Numbers.{digit, number}
-use Rattle.netlist_core.specs.Cells.{all_ones, is_less}
-use Rattle.gate_list.specs.declared.literal.GateLit.{GateLit}
-use Rattle.gate_list.specs.declared.literal.GateLit.TheVariants.{Fixed}
-use Rattle.gate_list.specs.Gates.{Gates, count, IsLit, lit_value}
-use Rattle.gate_list.specs.Folding.{Made, negated}
-use Rattle.gate_list.proofs.Adding.{lit-negated, value-negated}
-use Rattle.gate_words.specs.declared.operation.Operation.TheVariants.{And, Xor}
-use Rattle.gate_words.specs.Rows.{MadeRow, row_of}
-use Rattle.gate_words.specs.Bits.{lit_values, Grows, AddsBits, AddsLit}
-use Rattle.gate_words.specs.Sums.{MadeBit, full_sum, last_sum, carry_of, sum_of, difference_of, carry_out, top_negated, ordered, less_of, equal_of}
-use Rattle.gate_words.proofs.Growing.{hold-before, grows-none, grows-then, grows-most, lit-later}
-use Rattle.gate_words.proofs.Numbers.{number-fits, number-not, mod-from, less-carries, top_turned, signed-turned, alike-equal, fold-all}
+use Rattle.gate_words.proofs.Common.{◌≡◌, ℕ, suc, ◌+◌, ◌-◌, ◌*◌, ◌%◌, ◌^◌, ◌<◌, Bool, true, false, not, List, [], ◌∷◌, ◌++◌, length, map, drop, get_or, refl, sym, ap, subst, ◌∙◌, append_assoc, arith}
+use Rattle.gate_words.proofs.Common.{nat_le, nat_lt, nat_eq, All, drop_more, drop_all, length-map, length-drop, append-nil, All-nil, All-cons, All-head, All-tail, All-map, All-weaker, Values, digit}
+use Rattle.gate_words.proofs.Common.{number, all_ones, is_less, GateLit, Fixed, Gates, count, IsLit, lit_value, Made, negated, lit-negated, value-negated, And, Xor, MadeRow, row_of, lit_values, Grows}
+use Rattle.gate_words.proofs.Common.{AddsBits, AddsLit, MadeBit, full_sum, last_sum, carry_of, sum_of, difference_of, carry_out, top_negated, ordered, less_of, equal_of, number-fits}
+use Rattle.gate_words.proofs.Growing.{hold-before, grows-then, grows-most, lit-later}
+use Rattle.gate_words.proofs.Numbers.{number-not, mod-from, less-carries, top_turned, signed-turned, alike-equal, fold-all}
 use Rattle.gate_words.proofs.RowLemmas.{prefixed, row-adds, chain-adds}
 use Rattle.gate_words.proofs.SumLemmas.{full-adds, carry-adds, sum-adds, carry_out-adds}
 
@@ -168,9 +155,6 @@ pub record SumAhead (old : Gates) (xs ys : List GateLit) (from : GateLit) (i : �
   pub within : IsLit (count gates) carry
   pub ahead : sum_of old xs ys from ≡ prefixed bits (sum_of gates (drop i xs) (drop i ys) carry)
 
-pub sum-begun : (old : Gates) (xs ys bits : List GateLit) (from : GateLit) → IsLit (count old) from → bits ≡ [] → SumAhead old xs ys from 0 old bits from
-sum-begun old xs ys bits from is none = rw none (record { grows = grows-none old 0; within = is; ahead = refl })
-
 sum-next : (gates : Gates) (a b c : GateLit) (xs ys : List GateLit) → 0 < length xs → sum_of gates (a ∷ xs) (b ∷ ys) c ≡ prefixed ((full_sum gates a b c).sum ∷ []) (sum_of (full_sum gates a b c).gates xs ys (full_sum gates a b c).carry)
 sum-next gates a b c [] ys some = absurd (omega arith)
 sum-next gates a b c (d ∷ xs) ys some = refl
@@ -213,9 +197,6 @@ pub record CarryAhead (old : Gates) (xs ys : List GateLit) (from : GateLit) (i :
   pub within : IsLit (count gates) carry
   pub ahead : carry_out old xs ys from ≡ carry_out gates (drop i xs) (drop i ys) carry
 
-pub carry-begun : (old : Gates) (xs ys : List GateLit) (from : GateLit) → IsLit (count old) from → CarryAhead old xs ys from 0 old from
-carry-begun old xs ys from is = record { grows = grows-none old 0; within = is; ahead = refl }
-
 pub carry-step : (old gates new : Gates) (xs ys : List GateLit) (from : GateLit) (i : ℕ) (x y carry next : GateLit) → CarryAhead old xs ys from i gates carry → All (IsLit (count old)) xs → All (IsLit (count old)) ys → i < length xs → i < length ys → record { gates = new; lit = next } ≡ carry_of gates (get_or xs i x) (get_or ys i y) carry → CarryAhead old xs ys from (i + 1) new next
 carry-step old gates new xs ys from i x y carry next state lx ly ix iy made =
     let a : GateLit = get_or xs i x in
@@ -231,6 +212,3 @@ carry-step old gates new xs ys from i x y carry next state lx ly ix iy made =
           ∙ ap (λ (zs : List GateLit). carry_out gates (a ∷ drop (i + 1) xs) zs carry) (drop_more ys i y iy)
           ∙ ap (λ (m : Made). carry_out m.gates (drop (i + 1) xs) (drop (i + 1) ys) m.lit) (sym made);
     }
-
-pub carry-done : (old gates : Gates) (xs ys : List GateLit) (from : GateLit) (i : ℕ) (carry : GateLit) → CarryAhead old xs ys from i gates carry → length xs ≤ i → record { gates = gates; lit = carry } ≡ carry_out old xs ys from
-carry-done old gates xs ys from i carry state end = sym (state.ahead ∙ ap (λ (zs : List GateLit). carry_out gates zs (drop i ys) carry) (drop_all i xs end))

@@ -1,18 +1,7 @@
 -- Gates that were added after others.
-use Rattle.std.proofs.Common.{◌≡◌, ℕ, suc, ◌+◌, ◌≤◌, Bool, List, [], ◌∷◌, ◌++◌, length, refl, sym, ap, subst, ◌∙◌, append_assoc, arith}
-use Rattle.std.specs.List.{All}
-use Rattle.std.proofs.lemmas.List.{length-append, append-nil}
-use Rattle.std.proofs.lemmas.List.Elements.{All-weaker}
-use Rattle.clause_store.specs.Clauses.{Values}
+use Rattle.gate_words.proofs.Common.{◌≡◌, ℕ, suc, ◌+◌, ◌≤◌, Bool, List, [], ◌∷◌, ◌++◌, length, refl, sym, ap, subst, ◌∙◌, append_assoc, arith, All, length-append, append-nil, All-weaker, Values}
+use Rattle.gate_words.proofs.Common.{GateLit, Fixed, Var, Gates, count, IsLit, HoldFrom, Hold, Adds, Operation, And, Or, Xor, Mux, Made, MadeRow, IsOperation, Grows, AddsBits, AddsLit}
 use Rattle.gate_list.specs.declared.gate.Gate.{Gate}
-use Rattle.gate_list.specs.declared.literal.GateLit.{GateLit}
-use Rattle.gate_list.specs.declared.literal.GateLit.TheVariants.{Fixed, Var}
-use Rattle.gate_list.specs.Gates.{Gates, count, IsLit, HoldFrom, Hold, Adds}
-use Rattle.gate_words.specs.declared.operation.Operation.{Operation}
-use Rattle.gate_words.specs.declared.operation.Operation.TheVariants.{And, Or, Xor, Mux}
-use Rattle.gate_list.specs.Folding.{Made}
-use Rattle.gate_words.specs.Rows.{MadeRow, IsOperation}
-use Rattle.gate_words.specs.Bits.{Grows, AddsBits, AddsLit}
 
 hold-front : (next : ℕ) (xs found : List Gate) (values : Values) → HoldFrom next (xs ++ found) values → HoldFrom next xs values
 hold-front next [] found values holds = tt

@@ -1,3 +1,4 @@
+mod Common
 pub mod Adders
 pub mod Growing
 pub mod Moving

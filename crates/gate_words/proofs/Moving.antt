@@ -1,13 +1,8 @@
 -- Rows that are moved.
-use Rattle.std.proofs.Common.{◌≡◌, ℕ, zero, suc, ◌+◌, ◌-◌, ◌<◌, ◌≤◌, Bool, true, false, List, [], ◌∷◌, ◌++◌, length, map, take, drop, replicate, refl, sym, ap, ◌∙◌, append_assoc, inl, inr, arith, if◌then◌else◌}
-use Rattle.std.specs.List.{All}
-use Rattle.std.proofs.lemmas.Bool.{cases_lt}
-use Rattle.std.proofs.lemmas.List.{length-append, length-take-le, length-drop, length-replicate, length-map, take-take, take_all, take-append-le, take-replicate, drop-drop, drop_all, drop-append-le, drop-replicate, replicate-append-replicate, append-nil, map-append, take-map, drop-map}
-use Rattle.std.proofs.lemmas.List.Elements.{All-append, All-replicate, All-take, All-drop}
-use Rattle.gate_words.specs.declared.shifts.Way.{Way}
-use Rattle.gate_words.specs.declared.shifts.Way.TheVariants.{Up, Down}
-use Rattle.gate_words.specs.Bits.{both_bits}
-use Rattle.gate_words.specs.Shifts.{moved}
+use Rattle.gate_words.proofs.Common.{◌≡◌, ℕ, zero, suc, ◌+◌, ◌-◌, ◌<◌, ◌≤◌, Bool, true, false, List, [], ◌∷◌, ◌++◌, length, map, take, drop, replicate, refl, sym, ap, ◌∙◌, append_assoc, inl, inr}
+use Rattle.gate_words.proofs.Common.{arith, if◌then◌else◌, All, cases_lt, length-append, length-take-le, length-drop, length-replicate, length-map, take-take, take_all, take-append-le, take-replicate}
+use Rattle.gate_words.proofs.Common.{drop-drop, drop_all, drop-append-le, drop-replicate, replicate-append-replicate, append-nil, map-append, take-map, drop-map, All-append, All-replicate, All-take}
+use Rattle.gate_words.proofs.Common.{All-drop, Way, Up, Down, both_bits, moved}
 
 pub length-moved : {X : Type 0} (way : Way) (n : ℕ) (fill : X) (bits : List X) → length (moved way n fill bits) ≡ length bits
 length-moved Up n fill bits = length-take-le (length bits) (replicate n fill ++ bits) (omega (arith, length-append (replicate n fill) bits))

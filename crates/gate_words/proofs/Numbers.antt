@@ -1,15 +1,9 @@
 -- Numbers of bits.
-use Rattle.std.proofs.Common.{◌≡◌, ℕ, suc, ◌+◌, ◌-◌, ◌*◌, ◌%◌, ◌^◌, ◌<◌, ◌≤◌, Bool, true, false, not, eqb, ltb, pos, negsuc, ◌-ℤ◌, List, [], ◌∷◌, length, map, refl, sym, ◌∙◌, ap, subst, inl, inr, true≢false, arith, if◌then◌else◌}
-use Rattle.std.specs.Prelude.{nat_le, nat_lt, nat_eq, int_lt}
+use Rattle.gate_words.proofs.Common.{◌≡◌, ℕ, suc, ◌+◌, ◌-◌, ◌*◌, ◌%◌, ◌^◌, ◌<◌, ◌≤◌, Bool, true, false, not, eqb, ltb, pos, negsuc, ◌-ℤ◌, List, [], ◌∷◌, length, map, refl, sym, ◌∙◌, ap, subst, inl}
+use Rattle.gate_words.proofs.Common.{inr, true≢false, arith, if◌then◌else◌, nat_le, nat_lt, nat_eq, int_lt, Values, fold, eqb_tells, leb_tells, digit, number, all_ones, some_one, odd_ones, top_bit}
+use Rattle.gate_words.proofs.Common.{signed_number, is_less, And, Or, Xor, operation_value, both_bits, number-fits}
 use Rattle.std.proofs.lemmas.Int.{ints}
-use Rattle.clause_store.specs.Clauses.{Values}
-use Rattle.std.specs.List.{fold}
-use Rattle.std.proofs.lemmas.Bool.Decides.{eqb_tells, leb_tells}
 use Rattle.std.proofs.lemmas.Nat.{mod-mul-add}
-use Rattle.netlist_core.specs.Numbers.{digit, number}
-use Rattle.netlist_core.specs.Cells.{all_ones, some_one, odd_ones, top_bit, signed_number, is_less}
-use Rattle.gate_words.specs.declared.operation.Operation.TheVariants.{And, Or, Xor}
-use Rattle.gate_words.specs.Bits.{operation_value, both_bits}
 
 pub pow-suc : (k : ℕ) → 2 ^ suc k ≡ 2 ^ k * 2
 pow-suc k = omega arith
@@ -26,19 +20,9 @@ carried k low half whole small e =
       | inr h ↦ elim (leb_tells (2 ^ suc k) whole) [ inl g ↦ absurd (omega (arith, h.1, g.1, e, p, small)) | inr g ↦ h.0 ∙ sym g.0 ]
     ]
 
-pub number-fits : (bits : List Bool) → number bits < 2 ^ length bits
-number-fits [] = omega arith
-number-fits (true ∷ more) = let rest = number-fits more in let p : 2 ^ length (true ∷ more) ≡ 2 ^ length more * 2 = pow-suc (length more) in omega (arith, rest, p)
-number-fits (false ∷ more) = let rest = number-fits more in let p : 2 ^ length (false ∷ more) ≡ 2 ^ length more * 2 = pow-suc (length more) in omega (arith, rest, p)
-
 -- a number below the modulus that some times the modulus brings to another
 pub mod-from : (x y m r : ℕ) → x < m → x + m * r ≡ y → x ≡ y % m
 mod-from x y m r small e = sym (ap (λ (z : ℕ). z % m) (let f : y ≡ r * m + x = omega (arith, e) in f) ∙ mod-mul-add r m x small)
-
-pub length-both : (f : Bool → Bool → Bool) (xs ys : List Bool) → length xs ≡ length ys → length (both_bits f xs ys) ≡ length xs
-length-both f [] ys len = refl
-length-both f (a ∷ xs) [] len = absurd (omega arith)
-length-both f (a ∷ xs) (b ∷ ys) len = ap suc (length-both f xs ys (omega arith))
 
 pub number-not : (bits : List Bool) → number (map not bits) + number bits + 1 ≡ 2 ^ length bits
 number-not [] = refl
@@ -118,11 +102,6 @@ abbrev pub top_turned : List Bool → List Bool
 top_turned [] = []
 top_turned (b ∷ []) = not b ∷ []
 top_turned (b ∷ c ∷ more) = b ∷ top_turned (c ∷ more)
-
-pub length-turned : (xs : List Bool) → length (top_turned xs) ≡ length xs
-length-turned [] = refl
-length-turned (b ∷ []) = refl
-length-turned (b ∷ c ∷ more) = ap suc (length-turned (c ∷ more))
 
 number-turned : (b : Bool) (xs : List Bool) → 2 * number (top_turned (b ∷ xs)) + 2 * (2 ^ length (b ∷ xs) * digit (top_bit (b ∷ xs))) ≡ 2 * number (b ∷ xs) + 2 ^ length (b ∷ xs)
 number-turned true [] = refl

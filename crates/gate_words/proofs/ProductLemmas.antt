@@ -1,24 +1,12 @@
 -- What a product adds, and how a loop makes it.
-use Rattle.std.proofs.Common.{◌≡◌, ℕ, zero, suc, ◌+◌, ◌*◌, ◌%◌, ◌^◌, ◌<◌, ◌≤◌, Bool, true, false, List, [], ◌∷◌, ◌++◌, length, take, drop, replicate, get_or, refl, sym, ap, subst, ◌∙◌, arith}
-use Rattle.std.specs.List.{All}
-use Rattle.std.proofs.lemmas.List.{length-map, length-replicate, length-append, length-take-le, take-append-drop, drop_more, drop_all}
-use Rattle.std.proofs.lemmas.List.Elements.{All-head, All-tail, All-replicate}
+use Rattle.gate_words.proofs.Common.{◌≡◌, ℕ, zero, suc, ◌+◌, ◌*◌, ◌%◌, ◌^◌, ◌<◌, ◌≤◌, Bool, true, false, List, [], ◌∷◌, ◌++◌, length, take, drop, replicate, refl, sym, ap, subst, ◌∙◌, arith, All}
+use Rattle.gate_words.proofs.Common.{length-map, length-replicate, length-append, length-take-le, take-append-drop, drop_all, All-head, All-tail, All-replicate, Values, digit, number, GateLit, Fixed}
+use Rattle.gate_words.proofs.Common.{Gates, count, IsLit, lit_value, And, Up, MadeRow, row_of, lit_values, operation_value, both_bits, Grows, AddsBits, sum_of, moved, number-fits}
 use Rattle.std.proofs.Math.Nat.{mod-eq_of_lt, add-mod-mod, mod-add-mod}
-use Rattle.clause_store.specs.Clauses.{Values}
-use Rattle.netlist_core.specs.Numbers.{digit, number}
-use Rattle.gate_list.specs.declared.literal.GateLit.{GateLit}
-use Rattle.gate_list.specs.declared.literal.GateLit.TheVariants.{Fixed}
-use Rattle.gate_list.specs.Gates.{Gates, count, IsLit, lit_value}
-use Rattle.gate_words.specs.declared.operation.Operation.TheVariants.{And}
-use Rattle.gate_words.specs.declared.shifts.Way.TheVariants.{Up}
-use Rattle.gate_words.specs.Rows.{MadeRow, row_of}
-use Rattle.gate_words.specs.Bits.{lit_values, operation_value, both_bits, Grows, AddsBits}
-use Rattle.gate_words.specs.Sums.{sum_of}
-use Rattle.gate_words.specs.Shifts.{moved}
 use Rattle.gate_words.specs.Products.{product_from, product_of}
-use Rattle.gate_words.proofs.Growing.{hold-before, grows-none, grows-then, grows-most, lit-later, lits-later, row-told}
-use Rattle.gate_words.proofs.Numbers.{number-fits, mod-from, pow-suc}
-use Rattle.gate_words.proofs.RowLemmas.{RowIs, row-adds}
+use Rattle.gate_words.proofs.Growing.{hold-before, grows-none, grows-then, grows-most, lits-later}
+use Rattle.gate_words.proofs.Numbers.{mod-from, pow-suc}
+use Rattle.gate_words.proofs.RowLemmas.{row-adds}
 use Rattle.gate_words.proofs.Adders.{NumberIs, sum-number}
 use Rattle.gate_words.proofs.Moving.{length-moved, All-moved, map-replicate, map-moved}
 
@@ -138,30 +126,6 @@ pub record ProductAhead (old : Gates) (xs ys : List GateLit) (i : ℕ) (gates : 
   pub within : All (IsLit (count gates)) so_far
   pub wide : length so_far ≡ length xs
   pub ahead : product_of old xs ys ≡ product_from xs i gates so_far (drop i ys)
-
-pub product-begun : (old : Gates) (xs ys so_far : List GateLit) → so_far ≡ replicate (length xs) (Fixed false) → ProductAhead old xs ys 0 old so_far
-product-begun old xs ys so_far same = rw same (record { grows = grows-none old 0; within = All-replicate (IsLit (count old)) (length xs) (Fixed false) tt; wide = length-replicate (length xs) (Fixed false); ahead = refl })
-
-pub product-row : (gates : Gates) (xs : List GateLit) (i : ℕ) (b : GateLit) → All (IsLit (count gates)) xs → IsLit (count gates) b → AddsBits gates (row_of And gates (moved Up i (Fixed false) xs) (replicate (length xs) b)).gates (row_of And gates (moved Up i (Fixed false) xs) (replicate (length xs) b)).bits (length (moved Up i (Fixed false) xs)) (length (moved Up i (Fixed false) xs)) (RowIs And (moved Up i (Fixed false) xs) (replicate (length xs) b))
-product-row gates xs i b lx lb = row-adds And gates (moved Up i (Fixed false) xs) (replicate (length xs) b) tt (All-moved (IsLit (count gates)) Up i (Fixed false) xs tt lx) (All-replicate (IsLit (count gates)) (length xs) b lb) (length-moved Up i (Fixed false) xs ∙ sym (length-replicate (length xs) b))
-
-pub product-step : (old gates between new : Gates) (xs ys : List GateLit) (i : ℕ) (x : GateLit) (so_far row items : List GateLit) → ProductAhead old xs ys i gates so_far → All (IsLit (count old)) xs → All (IsLit (count old)) ys → length xs ≤ 128 → i < length ys → record { gates = between; bits = row } ≡ row_of And gates (moved Up i (Fixed false) xs) (replicate (length xs) (get_or ys i x)) → record { gates = new; bits = items } ≡ sum_of between so_far row (Fixed false) → ProductAhead old xs ys (i + 1) new items
-product-step old gates between new xs ys i x so_far row items state lx ly narrow within made summed =
-    let b : GateLit = get_or ys i x in
-    let R = row-told (row_of And gates (moved Up i (Fixed false) xs) (replicate (length xs) b)) made (product-row gates xs i b (lits-later state.grows xs lx) (lit-later state.grows b (ly i x within))) in
-    let broad : length row ≡ length xs = R.wide ∙ length-moved Up i (Fixed false) xs in
-    let S = row-told (sum_of between so_far row (Fixed false)) summed (sum-number between so_far row (Fixed false) (lits-later R.grows so_far state.within) R.within tt (state.wide ∙ sym broad)) in
-    record {
-      grows = grows-then (768 * (i + 1)) state.grows (grows-then 768 R.grows S.grows (omega (arith, narrow, state.wide, length-moved Up i (Fixed false) xs))) (omega arith);
-      within = S.within;
-      wide = S.wide ∙ state.wide;
-      ahead =
-          state.ahead
-          ∙ ap (λ (l : List GateLit). product_from xs i gates so_far l) (drop_more ys i x within)
-          ∙ ap (λ (m : MadeRow). product_from xs (suc i) (sum_of m.gates so_far m.bits (Fixed false)).gates (sum_of m.gates so_far m.bits (Fixed false)).bits (drop (i + 1) ys)) (sym made)
-          ∙ ap (λ (m : MadeRow). product_from xs (suc i) m.gates m.bits (drop (i + 1) ys)) (sym summed)
-          ∙ ap (λ (n : ℕ). product_from xs n new items (drop (i + 1) ys)) (let e : suc i ≡ i + 1 = omega arith in e);
-    }
 
 pub product-done : (old gates : Gates) (xs ys : List GateLit) (i : ℕ) (so_far : List GateLit) → ProductAhead old xs ys i gates so_far → length ys ≤ i → record { gates = gates; bits = so_far } ≡ product_of old xs ys
 product-done old gates xs ys i so_far state end = sym (state.ahead ∙ ap (λ (l : List GateLit). product_from xs i gates so_far l) (drop_all i ys end))

@@ -1,17 +1,7 @@
 -- Rows and chains: what they add, and how a loop makes them.
-use Rattle.std.proofs.Common.{◌≡◌, ℕ, suc, ◌+◌, ◌<◌, ◌≤◌, Bool, List, [], ◌∷◌, ◌++◌, length, drop, get_or, refl, sym, ap, subst, ◌∙◌, append_assoc, arith}
-use Rattle.std.proofs.lemmas.List.{drop_more, drop_all, append-nil}
-use Rattle.std.specs.List.{All, fold}
-use Rattle.std.proofs.lemmas.List.Elements.{All-nil, All-cons, All-head, All-tail}
-use Rattle.clause_store.specs.Clauses.{Values}
-use Rattle.gate_list.specs.declared.literal.GateLit.{GateLit}
-use Rattle.gate_list.specs.Gates.{Gates, count, IsLit, lit_value, Adds}
-use Rattle.gate_list.specs.Folding.{Made}
-use Rattle.gate_list.proofs.Adding.{adds-and, adds-or, adds-xor, adds-mux}
-use Rattle.gate_words.specs.declared.operation.Operation.{Operation}
-use Rattle.gate_words.specs.declared.operation.Operation.TheVariants.{And, Or, Xor, Mux}
-use Rattle.gate_words.specs.Rows.{MadeRow, IsOperation, made_by, row_of, chain_of}
-use Rattle.gate_words.specs.Bits.{lit_values, operation_value, both_bits, Grows, AddsBits, AddsLit}
+use Rattle.gate_words.proofs.Common.{◌≡◌, ℕ, suc, ◌+◌, ◌<◌, ◌≤◌, Bool, List, [], ◌∷◌, ◌++◌, length, drop, get_or, refl, sym, ap, subst, ◌∙◌, append_assoc, arith, drop_more, drop_all, append-nil, All}
+use Rattle.gate_words.proofs.Common.{fold, All-nil, All-cons, All-head, All-tail, Values, GateLit, Gates, count, IsLit, lit_value, Adds, Made, adds-and, adds-or, adds-xor, adds-mux, Operation, And}
+use Rattle.gate_words.proofs.Common.{Or, Xor, Mux, MadeRow, IsOperation, made_by, row_of, chain_of, lit_values, operation_value, both_bits, Grows, AddsBits, AddsLit}
 use Rattle.gate_words.proofs.Growing.{hold-before, grows-none, grows-then, grows-adds, lit-later, lits-later, operation-later}
 
 pub operation-adds : (operation : Operation) (gates : Gates) (a b : GateLit) → IsOperation (count gates) operation → IsLit (count gates) a → IsLit (count gates) b → Adds gates (made_by operation gates a b).gates (made_by operation gates a b).lit (λ values. operation_value operation values (lit_value values a) (lit_value values b))
@@ -88,9 +78,6 @@ pub record ChainAhead (operation : Operation) (old : Gates) (start : GateLit) (x
   pub grows : Grows old gates i
   pub within : IsLit (count gates) lit
   pub ahead : chain_of operation old start xs ≡ chain_of operation gates lit (drop i xs)
-
-pub chain-begun : (operation : Operation) (old : Gates) (start : GateLit) (xs : List GateLit) → IsLit (count old) start → ChainAhead operation old start xs 0 old start
-chain-begun operation old start xs is = record { grows = grows-none old 0; within = is; ahead = refl }
 
 pub chain-step : (operation : Operation) (old gates new : Gates) (start : GateLit) (xs : List GateLit) (i : ℕ) (x from lit : GateLit) → ChainAhead operation old start xs i gates from → IsOperation (count old) operation → All (IsLit (count old)) xs → i < length xs → record { gates = new; lit = lit } ≡ made_by operation gates from (get_or xs i x) → ChainAhead operation old start xs (i + 1) new lit
 chain-step operation old gates new start xs i x from lit state is lx ix made =

@@ -1,25 +1,9 @@
 -- What a shift adds, and how a loop makes it.
-use Rattle.std.proofs.Common.{◌≡◌, ℕ, zero, suc, ◌+◌, ◌*◌, ◌^◌, ◌<◌, ◌≤◌, Bool, true, false, List, [], ◌∷◌, length, drop, replicate, get_or, refl, sym, ap, ◌∙◌, ◌⊎◌, inl, inr, arith, if◌then◌else◌}
-use Rattle.std.specs.Prelude.{nat_lt}
-use Rattle.std.specs.List.{All}
-use Rattle.std.proofs.lemmas.Bool.{false≢true}
-use Rattle.std.proofs.lemmas.Bool.Decides.{leb_tells}
-use Rattle.std.proofs.lemmas.List.{length-map, length-replicate, drop_more, drop_all}
-use Rattle.std.proofs.lemmas.List.Elements.{All-head, All-tail, All-replicate}
+use Rattle.gate_words.proofs.Common.{◌≡◌, ℕ, zero, suc, ◌+◌, ◌*◌, ◌^◌, ◌<◌, ◌≤◌, Bool, true, false, List, [], ◌∷◌, length, drop, replicate, refl, sym, ap, ◌∙◌, ◌⊎◌, inl, inr, arith, if◌then◌else◌}
+use Rattle.gate_words.proofs.Common.{nat_lt, All, false≢true, leb_tells, length-map, length-replicate, drop_all, All-head, All-tail, All-replicate, Values, digit, number, some_one, GateLit, Fixed}
+use Rattle.gate_words.proofs.Common.{Gates, count, IsLit, lit_value, Made, Or, Mux, Way, MadeRow, row_of, chain_of, lit_values, Grows, AddsBits, moved, past_end, shift_from, shift_of}
 use Rattle.std.proofs.Math.Nat.{mul-le-mul_left}
-use Rattle.clause_store.specs.Clauses.{Values}
-use Rattle.netlist_core.specs.Numbers.{digit, number}
-use Rattle.netlist_core.specs.Cells.{some_one}
-use Rattle.gate_list.specs.declared.literal.GateLit.{GateLit}
-use Rattle.gate_list.specs.declared.literal.GateLit.TheVariants.{Fixed}
-use Rattle.gate_list.specs.Gates.{Gates, count, IsLit, lit_value}
-use Rattle.gate_list.specs.Folding.{Made}
-use Rattle.gate_words.specs.declared.operation.Operation.TheVariants.{Or, Mux}
-use Rattle.gate_words.specs.declared.shifts.Way.{Way}
-use Rattle.gate_words.specs.Rows.{MadeRow, row_of, chain_of}
-use Rattle.gate_words.specs.Bits.{lit_values, Grows, AddsBits}
-use Rattle.gate_words.specs.Shifts.{moved, past_end, shift_from, shift_of}
-use Rattle.gate_words.proofs.Growing.{hold-before, grows-none, grows-then, grows-most, lit-later, lits-later, row-told}
+use Rattle.gate_words.proofs.Growing.{hold-before, grows-then, grows-most, lit-later, lits-later}
 use Rattle.gate_words.proofs.Numbers.{fold-some}
 use Rattle.gate_words.proofs.RowLemmas.{row-adds, chain-adds}
 use Rattle.gate_words.proofs.Moving.{length-moved, All-moved, map-replicate, map-moved, moved-none, moved-all, moved-twice, both-chosen}
@@ -156,39 +140,12 @@ pub record ShiftAhead (way : Way) (fill : GateLit) (old : Gates) (start places :
   pub wide : length bits ≡ length start
   pub ahead : shift_of way fill old start places ≡ shift_from way fill weight gates bits (drop place places)
 
-pub shift-begun : (way : Way) (fill : GateLit) (old : Gates) (start places bits : List GateLit) → All (IsLit (count old)) start → bits ≡ start → ShiftAhead way fill old start places 0 1 old bits
-shift-begun way fill old start places bits are same = rw same (record { reached = omega arith; grows = grows-none old 0; within = are; wide = refl; ahead = refl })
-
-shift-next : (way : Way) (fill s : GateLit) (weight : ℕ) (gates : Gates) (bits more : List GateLit) → weight < length bits → shift_from way fill weight gates bits (s ∷ more) ≡ shift_from way fill (2 * weight) (row_of (Mux s) gates bits (moved way weight fill bits)).gates (row_of (Mux s) gates bits (moved way weight fill bits)).bits more
-shift-next way fill s weight gates bits more below = elim (leb_tells (suc weight) (length bits)) [
-  | inl h ↦ rw h.0 refl
-  | inr h ↦ absurd (omega (arith, h.1, below))
-]
-
 shift-stop : (way : Way) (fill : GateLit) (weight : ℕ) (gates : Gates) (bits places : List GateLit) → length bits ≤ weight → shift_from way fill weight gates bits places ≡ past_end gates fill bits places
 shift-stop way fill weight gates bits [] past = refl
 shift-stop way fill weight gates bits (s ∷ more) past = elim (leb_tells (suc weight) (length bits)) [
   | inl h ↦ absurd (omega (arith, h.1, past))
   | inr h ↦ rw h.0 refl
 ]
-
-pub shift-step : (way : Way) (fill : GateLit) (old gates new : Gates) (start places : List GateLit) (place weight : ℕ) (x : GateLit) (bits items : List GateLit) → ShiftAhead way fill old start places place weight gates bits → IsLit (count old) fill → All (IsLit (count old)) places → length start ≤ 128 → place < length places → weight < length start → record { gates = new; bits = items } ≡ row_of (Mux (get_or places place x)) gates bits (moved way weight fill bits) → ShiftAhead way fill old start places (place + 1) (weight * 2) new items
-shift-step way fill old gates new start places place weight x bits items state is lp narrow within below made =
-    let s : GateLit = get_or places place x in
-    let R = row-adds (Mux s) gates bits (moved way weight fill bits) (lit-later state.grows s (lp place x within)) state.within (All-moved (IsLit (count gates)) way weight fill bits (lit-later state.grows fill is) state.within) (sym (length-moved way weight fill bits)) in
-    let T = row-told (row_of (Mux s) gates bits (moved way weight fill bits)) made R in
-    record {
-      reached = omega (arith, within);
-      grows = grows-then (128 * (place + 1)) state.grows T.grows (omega (arith, state.wide, narrow));
-      within = T.within;
-      wide = T.wide ∙ state.wide;
-      ahead =
-          state.ahead
-          ∙ ap (λ (l : List GateLit). shift_from way fill weight gates bits l) (drop_more places place x within)
-          ∙ shift-next way fill s weight gates bits (drop (place + 1) places) (omega (arith, state.wide, below))
-          ∙ ap (λ (m : MadeRow). shift_from way fill (2 * weight) m.gates m.bits (drop (place + 1) places)) (sym made)
-          ∙ ap (λ (n : ℕ). shift_from way fill n new items (drop (place + 1) places)) (let e : 2 * weight ≡ weight * 2 = omega arith in e);
-    }
 
 pub shift-done : (way : Way) (fill : GateLit) (old gates : Gates) (start places : List GateLit) (place weight : ℕ) (bits : List GateLit) → ShiftAhead way fill old start places place weight gates bits → (length places ≤ place) ⊎ (length start ≤ weight) → shift_of way fill old start places ≡ past_end gates fill bits (drop place places)
 shift-done way fill old gates start places place weight bits state (inl end) =

@@ -1,17 +1,7 @@
 -- Sums and carries: what they add.
-use Rattle.std.proofs.Common.{◌≡◌, ℕ, suc, ◌+◌, ◌*◌, ◌^◌, ◌≤◌, Bool, true, false, not, List, [], ◌∷◌, length, refl, ap, ◌∙◌, arith, if◌then◌else◌}
-use Rattle.std.specs.List.{All}
-use Rattle.std.specs.Prelude.{nat_le}
-use Rattle.std.proofs.lemmas.List.Elements.{All-nil, All-cons, All-head, All-tail}
-use Rattle.clause_store.specs.Clauses.{Values}
-use Rattle.netlist_core.specs.Numbers.{digit, number}
-use Rattle.gate_list.specs.declared.literal.GateLit.{GateLit}
-use Rattle.gate_list.specs.Gates.{Gates, count, IsLit, lit_value, Hold}
-use Rattle.gate_list.specs.Folding.{Made, and_of, or_of, xor_of}
-use Rattle.gate_list.proofs.Adding.{adds-and, adds-or, adds-xor}
-use Rattle.gate_words.specs.Rows.{MadeRow}
-use Rattle.gate_words.specs.Bits.{lit_values, Grows, AddsBits, AddsLit}
-use Rattle.gate_words.specs.Sums.{MadeBit, full_sum, last_sum, carry_of, sum_of, carry_out}
+use Rattle.gate_words.proofs.Common.{◌≡◌, ℕ, suc, ◌+◌, ◌*◌, ◌^◌, ◌≤◌, Bool, true, false, not, List, [], ◌∷◌, length, refl, ap, ◌∙◌, arith, if◌then◌else◌, All, nat_le, All-nil, All-cons, All-head}
+use Rattle.gate_words.proofs.Common.{All-tail, Values, digit, number, GateLit, Gates, count, IsLit, lit_value, Hold, Made, and_of, or_of, xor_of, adds-and, adds-or, adds-xor, MadeRow, lit_values}
+use Rattle.gate_words.proofs.Common.{Grows, AddsBits, AddsLit, MadeBit, full_sum, last_sum, carry_of, sum_of, carry_out}
 use Rattle.gate_words.proofs.Growing.{hold-before, grows-none, grows-then, grows-most, grows-adds, lit-later, lits-later}
 use Rattle.gate_words.proofs.Numbers.{pow-twice, carried}
 

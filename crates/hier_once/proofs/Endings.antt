@@ -1,15 +1,8 @@
 -- What is built is ended as one netlist.
-use Rattle.std.proofs.Common.{◌≡◌, ◌↔◌, inl, inr, ℕ, List, [], ◌∷◌, map, Option, Some, refl, sym, ap, ◌∙◌, subst}
-use Rattle.mcy_base.specs.declared.word.Word.{Word}
-use Rattle.netlist_core.specs.declared.bit.Bit.{Bit}
-use Rattle.netlist_core.specs.declared.port.Register.{Register}
-use Rattle.netlist_core.specs.declared.raw.RawNetlist.{RawNetlist}
-use Rattle.vlog_effects.specs.Steps.{word_of}
-use Rattle.net_builder.specs.Building.{Building, signal}
-use Rattle.net_builder.specs.Finished.{LeadsTo, step_of, all_led, led_cell, led_port}
-use Rattle.elab_proc.proofs.TurnLemmas.{word_again}
+use Rattle.hier_once.proofs.Common.{◌≡◌, ◌↔◌, inl, inr, ℕ, List, [], ◌∷◌, map, Option, refl, sym, ap, ◌∙◌, subst, Bit, Register, RawNetlist, Building, signal, LeadsTo, step_of, all_led, led_cell}
+use Rattle.hier_once.proofs.Common.{led_port, AreRegistersOf, IsEnding, IsRegisterOf, port_of, registers_in}
 use Rattle.flat_runs.specs.Finishing.{IsFirstWith}
-use Rattle.elab_finish.specs.Endings.{AreRegistersOf, IsEnding, IsRegisterOf, port_of, registers_in}
+use Rattle.flat_scopes.proofs.Valued.{same_parts}
 
 -- a net leads to one bit
 leads_same : (b : Building) (ports : List (List Bit)) (to also : ℕ → Bit) → ((n : ℕ) (end : Bit) → LeadsTo (step_of b ports) n end ↔ (to n ≡ end)) → ((n : ℕ) (end : Bit) → LeadsTo (step_of b ports) n end ↔ (also n ≡ end)) → to ≡ also
@@ -24,13 +17,6 @@ first_with_once q (x ∷ more) r s (inl h) (inr g) = absurd (g.0 h.0)
 first_with_once q (x ∷ more) r s (inr h) (inl g) = absurd (h.0 g.0)
 first_with_once q (x ∷ more) r s (inr h) (inr g) = first_with_once q more r s h.1 g.1
 
-some_once : (v w : Word) → Some v ≡ Some w → v ≡ w
-some_once v w e = cc
-
--- a word is its width and its bits
-word_once : (v w : Word) → v.width ≡ w.width → v.bits ≡ w.bits → v ≡ w
-word_once v w wide same = some_once v w (sym (word_again v) ∙ ap (λ (k : ℕ). word_of k v.bits) wide ∙ ap (word_of w.width) same ∙ word_again w)
-
 register_once : (b : Building) (to : ℕ → Bit) (k : ℕ) (r s : Register) → IsRegisterOf b to k r → IsRegisterOf b to k s → r ≡ s
 register_once b to k r s h g =
     let built : h.built ≡ g.built = first_with_once (signal b k) b.registers h.built g.built h.first g.first in
@@ -38,7 +24,7 @@ register_once b to k r s h g =
     let span : r.span ≡ s.span = h.span ∙ sym g.span in
     let d : r.d ≡ s.d = h.d ∙ ap (λ (x : Register). all_led to x.d) built ∙ sym g.d in
     let q : r.q ≡ s.q = h.q ∙ sym g.q in
-    let start : r.start ≡ s.start = word_once r.start s.start (h.width ∙ sym g.width) (h.start ∙ sym g.start) in
+    let start : r.start ≡ s.start = same_parts r.start s.start (h.width ∙ sym g.width) (h.start ∙ sym g.start) in
     λ i. record { name = name i; span = span i; d = d i; q = q i; start = start i }
 
 registers_once : (b : Building) (to : ℕ → Bit) (ks : List ℕ) (rs qs : List Register) → AreRegistersOf b to ks rs → AreRegistersOf b to ks qs → rs ≡ qs

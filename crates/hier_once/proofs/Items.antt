@@ -1,26 +1,15 @@
 -- Items are all built, or one is the first that is not, for one reason: what is built before has room for its cells.
-use Rattle.std.proofs.Common.{◌≡◌, ◌≢◌, inl, inr, ℕ, ◌+◌, ◌<◌, ◌≤◌, Bool, List, [], ◌∷◌, length, None, Some, refl, sym, ap, ◌∙◌, arith}
-use Rattle.std.specs.Prelude.{slice_index_or}
-use Rattle.mcy_base.specs.declared.kind.Kind.{Kind}
+use Rattle.hier_once.proofs.Common.{◌≡◌, ◌≢◌, inl, inr, ℕ, ◌+◌, ◌<◌, ◌≤◌, Bool, List, [], ◌∷◌, length, None, Some, refl, sym, ap, ◌∙◌, arith, slice_index_or, Kind, Bit, Building, max_cells, FlatItem}
+use Rattle.hier_once.proofs.Common.{Flat, Clocks, IsShort, Stands, cell_count, BuildsAll, BuildsTimed, FailsSome, FailsTimed, RefusesTimed, built_count, built_one, refused_once}
 use Rattle.mcy_base.specs.declared.kind.Kind.TheVariants as kind
-use Rattle.netlist_core.specs.declared.bit.Bit.{Bit}
-use Rattle.net_builder.specs.Building.{Building}
-use Rattle.net_builder.specs.Refusals.{max_cells}
 use Rattle.process_cells.specs.Items.{Widths, widths_in}
 use Rattle.flat_instances.specs.Places.{Place}
-use Rattle.flat_instances.specs.declared.item.FlatItem.{FlatItem}
-use Rattle.flat_items.specs.Flattened.{Flat}
-use Rattle.flat_clocks.specs.Clocks.{Clocks}
 use Rattle.elab_items.specs.declared.error.BuildError.{BuildError}
 use Rattle.elab_items.specs.declared.error.BuildError.TheVariants.{Refused, TooMany, Memory}
 use Rattle.elab_items.specs.declared.error.Reason.{Reason}
-use Rattle.elab_items.specs.Items.{IsShort, Stands, cell_count}
-use Rattle.elab_items.specs.Timed.{BuildsAll, BuildsTimed, FailsSome, FailsTimed, RefusesTimed}
-use Rattle.elab_items.proofs.Counting.{built_count}
 use Rattle.elab_items.proofs.Standing.{builds_stand}
-use Rattle.elab_once.specs.Alike.{AreAlike}
-use Rattle.elab_once.proofs.Building.{built_one}
-use Rattle.elab_once.proofs.Stopping.{refused_once}
+use Rattle.elab_hier.specs.Alike.{AreAlike}
+use Rattle.std.proofs.lemmas.Option.{same_Some, none-some}
 
 -- Builders in which the same was built: they are alike, and have as many cells.
 pub record AreLevel (b c : Building) : Type 0 where
@@ -38,12 +27,6 @@ too_many n kind.Sites h = absurd h
 too_many n kind.Gates h = absurd h
 too_many n kind.FreeBits h = absurd h
 too_many n kind.Scopes h = absurd h
-
-some_once : {A : Type 0} (x y : A) → Some x ≡ Some y → x ≡ y
-some_once x y e = cc
-
-none_some : {A : Type 0} (x : A) → None ≡ Some x → ⊥
-none_some x e = absurd cc
 
 -- the signals have the same widths
 same_widths : (b c : Building) → AreAlike b c → widths_in b ≡ widths_in c
@@ -76,22 +59,22 @@ module _ (inputs : List Bool) (flat : Flat) (clocks : Clocks) where
 
   built_fits : (item : FlatItem) (b c next : Building) (x : BuildError) → AreLevel b c → Stands flat.places b → BuildsTimed inputs flat clocks item b next → FailsTimed inputs flat clocks item c x → x ≡ Memory
   built_fits item b c next x h stands d e =
-      let none : (r : Reason) → RefusesTimed c inputs flat clocks item (Some r) → ⊥ = λ r refuses. none_some r (refused_once inputs flat clocks item b c None (Some r) h.alike stands (accepted inputs flat clocks item b next d) refuses) in
+      let none : (r : Reason) → RefusesTimed c inputs flat clocks item (Some r) → ⊥ = λ r refuses. none-some r (refused_once inputs flat clocks item b c None (Some r) h.alike stands (accepted inputs flat clocks item b next d) refuses) in
       let most = d.few in
       let same = same_count flat.places item b c h in
       fits item c x none (omega (arith, most, same)) e
 
   fits_built : (item : FlatItem) (b c next : Building) (x : BuildError) → AreLevel b c → Stands flat.places b → FailsTimed inputs flat clocks item b x → BuildsTimed inputs flat clocks item c next → x ≡ Memory
   fits_built item b c next x h stands d e =
-      let none : (r : Reason) → RefusesTimed b inputs flat clocks item (Some r) → ⊥ = λ r refuses. none_some r (sym (refused_once inputs flat clocks item b c (Some r) None h.alike stands refuses (accepted inputs flat clocks item c next e))) in
+      let none : (r : Reason) → RefusesTimed b inputs flat clocks item (Some r) → ⊥ = λ r refuses. none-some r (sym (refused_once inputs flat clocks item b c (Some r) None h.alike stands refuses (accepted inputs flat clocks item c next e))) in
       let most = e.few in
       let same = same_count flat.places item b c h in
       fits item b x none (omega (arith, most, same)) d
 
   fails_once : (item : FlatItem) (b c : Building) (x y : BuildError) → x ≢ Memory → y ≢ Memory → AreLevel b c → Stands flat.places b → FailsTimed inputs flat clocks item b x → FailsTimed inputs flat clocks item c y → x ≡ y
-  fails_once item b c (Refused x) (Refused y) found also h stands d e = ap Refused (some_once x y (refused_once inputs flat clocks item b c (Some x) (Some y) h.alike stands d e))
-  fails_once item b c (Refused x) (TooMany k) found also h stands d e = absurd (none_some x (sym (refused_once inputs flat clocks item b c (Some x) None h.alike stands d e.0)))
-  fails_once item b c (TooMany k) (Refused y) found also h stands d e = absurd (none_some y (refused_once inputs flat clocks item b c None (Some y) h.alike stands d.0 e))
+  fails_once item b c (Refused x) (Refused y) found also h stands d e = ap Refused (same_Some x y (refused_once inputs flat clocks item b c (Some x) (Some y) h.alike stands d e))
+  fails_once item b c (Refused x) (TooMany k) found also h stands d e = absurd (none-some x (sym (refused_once inputs flat clocks item b c (Some x) None h.alike stands d e.0)))
+  fails_once item b c (TooMany k) (Refused y) found also h stands d e = absurd (none-some y (refused_once inputs flat clocks item b c None (Some y) h.alike stands d.0 e))
   fails_once item b c (TooMany j) (TooMany k) found also h stands d e =
       ap TooMany ((too_many (length b.cells + cell_count (widths_in b) flat.places item) j d.1).1 ∙ sym (too_many (length c.cells + cell_count (widths_in c) flat.places item) k e.1).1)
   fails_once item b c Memory y found also h stands d e = absurd (found refl)

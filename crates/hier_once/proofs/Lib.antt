@@ -1,3 +1,4 @@
+mod Common
 pub mod Sources
 pub mod Endings
 pub mod Refused

@@ -1,13 +1,9 @@
 -- Modules are elaborated in one way.
-use Rattle.std.proofs.Common.{◌≡◌, ◌≢◌, ℕ, ◌<◌, List, length, Ok, Err, refl, sym, ap, ◌∙◌, subst, arith}
+use Rattle.hier_once.proofs.Common.{◌≡◌, ◌≢◌, ℕ, ◌<◌, List, length, Ok, Err, refl, sym, ap, ◌∙◌, subst, arith, RawNetlist, Building, empty, FlatItem, Flat, clocks_of, Stands, BuildsAll, FailsSome}
+use Rattle.hier_once.proofs.Common.{DesignError, begin_alike, built_once, Source, clock_name, inputs, outputs, Ends, HasNetlist, laid, HasItems, HasSignals, IsAccepted}
 use Rattle.std.proofs.lemmas.Grind.{same_number_lists}
-use Rattle.netlist_core.specs.declared.raw.RawNetlist.{RawNetlist}
 use Rattle.vlog_meaning.specs.Scopes.{Store}
-use Rattle.net_builder.specs.Building.{Building, empty}
 use Rattle.flat_runs.specs.Designs.{Design}
-use Rattle.flat_instances.specs.declared.item.FlatItem.{FlatItem}
-use Rattle.flat_items.specs.Flattened.{Flat}
-use Rattle.flat_clocks.specs.Clocks.{clocks_of}
 use Rattle.flat_laws.specs.Sound.{IsSound}
 use Rattle.flat_laws.proofs.Flattened.{flattened_sound}
 use Rattle.flat_once.proofs.Flattened.{no_top_flattens}
@@ -16,24 +12,18 @@ use Rattle.elab_items.specs.declared.answer.ElabError.{ElabError}
 use Rattle.elab_items.specs.declared.answer.ElabError.TheVariants.{Memory}
 use Rattle.elab_items.specs.declared.error.BuildError.TheVariants as build
 use Rattle.elab_items.specs.Designs.{widths_of}
-use Rattle.elab_items.specs.Items.{Stands}
 use Rattle.elab_items.specs.Signals.{bits_of, declared, max_bits}
 use Rattle.elab_items.specs.Starts.{start_values}
-use Rattle.elab_items.specs.Timed.{BuildsAll, FailsSome}
 use Rattle.elab_items.specs.Turns.{max_turns}
 use Rattle.elab_items.proofs.Sounding.{declared_stands}
 use Rattle.elab_items.proofs.Starting.{starts_stand}
 use Rattle.elab_items.proofs.Turning.{all_within}
-use Rattle.elab_finish.specs.declared.error.DesignError.{DesignError}
 use Rattle.elab_finish.specs.declared.error.DesignError.TheVariants as ending
 use Rattle.elab_finish.specs.Refusals.{IsRefused}
 use Rattle.elab_hier.specs.Lefts.{design_lefts}
 use Rattle.elab_hier.specs.Numbers.{declared_numbers}
-use Rattle.elab_once.proofs.Building.{begin_alike}
-use Rattle.elab_once.proofs.Built.{built_once}
-use Rattle.elab_hier.specs.Tops.{Source, clock_name, inputs, outputs}
-use Rattle.elab_hier.specs.Elaborations.{Ends, HasItems, HasNetlist, HasSignals}
 use Rattle.elab_hier.specs.Refusals.{RefusesEnd, RefusesItem, RefusesSource, RefusesTurns, build_answer, counted, end, end_answer, full, item, no_top, refused, short, turns}
+pub use Rattle.elab_hier.proofs.Sources.{elaborates}
 use Rattle.hier_once.specs.Laws.{FewCells, HasOneAnswer, HasOneNetlist, HasOneRefusal, NoneIsRefused}
 use Rattle.hier_once.proofs.Sources.{source_once}
 use Rattle.hier_once.proofs.Endings.{ending_once}
@@ -59,6 +49,10 @@ begun_level flat b c h g = record {
 begun_stands : (flat : Flat) (b : Building) → IsSound flat → HasSignals flat b → Stands flat.places b
 begun_stands flat b sound h = starts_stand flat.places (declared flat.signals empty) b h.declared (declared_stands flat sound).0
 
+-- the builder in which an accepted source is laid
+signals_of : (source : Source) (top : List ℕ) (n : RawNetlist) (h : IsAccepted source top n) → HasSignals source.flat h.is.first
+signals_of source top n h = record { fits = h.fits; declared = h.is.begins }
+
 -- the start values of the design that a source is
 starts_are : (source : Source) (top : List ℕ) (n : RawNetlist) (h : HasNetlist source top n) → StartsWith h.first (start_values (widths_of source.flat.signals) source.flat.places source.flat.items)
 starts_are source top n h = subst (StartsWith h.first) (ap (λ (d : Design). d.start) h.is_design.2) h.starts
@@ -83,8 +77,8 @@ last_once source b c last other store h g x y d e =
 
 netlist_once : (source : Source) (top : List ℕ) (n m : RawNetlist) → HasNetlist source top n → HasNetlist source top m → n ≡ m
 netlist_once source top n m h g =
-    let same : g.last ≡ h.last = last_once source g.first h.first g.last h.last _ g.begins h.begins (starts_are source top m g) (starts_are source top n h) g.builds.all h.builds.all in
-    ending_once h.last top (clock_name source) (inputs source) (outputs source) (declared_numbers source.flat.items) n m h.ends (subst (λ (b : Building). Ends source top b m) same g.ends)
+    let same : g.first ≡ h.first = begun_once (declared source.flat.signals empty) g.first h.first _ g.begins h.begins (starts_are source top m g) (starts_are source top n h) in
+    ending_once (laid source h.first) top (clock_name source) (inputs source) (outputs source) (declared_numbers source.flat.items) n m h.ends (subst (λ (b : Building). Ends source top (laid source b) m) same g.ends)
 
 -- Where all items are built, none is refused.
 built_not_refused : (source : Source) (e : ElabError) (b last : Building) → IsSound source.flat → HasSignals source.flat b → HasItems source.flat source.flags b last → RefusesItem source.flat source.flags e → e ≡ Memory
@@ -102,17 +96,18 @@ turns_or_item source e f sound r q =
     let memory : q.reason ≡ build.Memory = all_fit source.flags source.flat (clocks_of source.flags source.flat) (counted source.flat) r.first q.first r.last q.reason (begun_level source.flat r.first q.first r.begins q.begins) (begun_stands source.flat r.first sound r.begins) r.builds q.fails in
     q.answers ∙ ap (build_answer source.flat.signals) memory
 
-end_not_refused : (source : Source) (top : List ℕ) (n : RawNetlist) (e : ElabError) → HasNetlist source top n → RefusesEnd source top e → e ≡ Memory
+end_not_refused : (source : Source) (top : List ℕ) (n : RawNetlist) (e : ElabError) → IsAccepted source top n → RefusesEnd source top e → e ≡ Memory
 end_not_refused source top n e h r =
-    let same : r.last ≡ h.last = last_once source r.first h.first r.last h.last _ r.begins h.begins r.starts (starts_are source top n h) r.builds.all h.builds.all in
-    let here = refused_here source top r.last h.last r.reason same r.refused in
-    r.answers ∙ ap end_answer (ended_not_refused h.last top (clock_name source) (inputs source) (outputs source) (declared_numbers source.flat.items) (design_lefts source.flat) n r.reason h.ends h.within h.apart h.runnable.2.loops here)
+    let last = laid source h.is.first in
+    let same : r.last ≡ last = last_once source r.first h.is.first r.last last _ r.begins (signals_of source top n h) r.starts (starts_are source top n h.is) r.builds.all h.builds.all in
+    let here = refused_here source top r.last last r.reason same r.refused in
+    r.answers ∙ ap end_answer (ended_not_refused last top (clock_name source) (inputs source) (outputs source) (declared_numbers source.flat.items) (design_lefts source.flat) n r.reason h.is.ends h.within h.apart h.runnable.2.loops here)
 
--- A source that has a netlist is not refused.
-source_not_refused : (source : Source) (top : List ℕ) (n : RawNetlist) (e : ElabError) → IsSound source.flat → HasNetlist source top n → RefusesSource source top e → e ≡ Memory
-source_not_refused source top n _ sound h (full many) = absurd (not_full source.flat h.first h.begins many)
-source_not_refused source top n _ sound h (item e r) = built_not_refused source e h.first h.last sound h.begins h.builds r
-source_not_refused source top n _ sound h (turns e r) = absurd (not_within source e h.first h.last h.builds r)
+-- A source that is accepted is not refused.
+source_not_refused : (source : Source) (top : List ℕ) (n : RawNetlist) (e : ElabError) → IsSound source.flat → IsAccepted source top n → RefusesSource source top e → e ≡ Memory
+source_not_refused source top n _ sound h (full many) = absurd (not_full source.flat h.is.first (signals_of source top n h) many)
+source_not_refused source top n _ sound h (item e r) = built_not_refused source e h.is.first (laid source h.is.first) sound (signals_of source top n h) h.builds r
+source_not_refused source top n _ sound h (turns e r) = absurd (not_within source e h.is.first (laid source h.is.first) h.builds r)
 source_not_refused source top n _ sound h (end e r) = end_not_refused source top n e h r
 
 -- A source that has none is refused for one reason.
@@ -179,7 +174,7 @@ one_refusal modules top _ _ found also (refused source e is r) short = absurd (a
 one_refusal modules top _ _ found also short y = absurd (found refl)
 
 pub one_answer : HasOneAnswer
-one_answer modules top (Ok n) (Ok m) found also x y = ap Ok (one_netlist modules top n m x y)
+one_answer modules top (Ok n) (Ok m) found also x y = ap Ok (one_netlist modules top n m (elaborates modules top n x) (elaborates modules top m y))
 one_answer modules top (Ok n) (Err e) found also x y = absurd (also (ap Err (no_refusal modules top n e x y)))
 one_answer modules top (Err e) (Ok n) found also x y = absurd (found (ap Err (no_refusal modules top n e y x)))
 one_answer modules top (Err e) (Err f) found also x y = ap Err (one_refusal modules top e f (λ is. found (ap Err is)) (λ is. also (ap Err is)) x y)

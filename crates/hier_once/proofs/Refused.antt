@@ -1,26 +1,18 @@
 -- The end of what is built is refused in one way, or not at all.
-use Rattle.std.proofs.Common.{◌≡◌, ◌≢◌, ◌⊎◌, inl, inr, ℕ, ◌<◌, ◌≤◌, Bool, true, List, [], ◌∷◌, map, Option, None, Some, refl, sym, ap, ◌∙◌, subst, arith}
-use Rattle.std.specs.Prelude.{slice_get}
+use Rattle.hier_once.proofs.Common.{◌≡◌, ◌≢◌, ◌⊎◌, inl, inr, ℕ, ◌<◌, ◌≤◌, Bool, true, List, [], ◌∷◌, map, Option, None, Some, refl, sym, ap, ◌∙◌, subst, arith, slice_get, Kind, Bit, Register}
+use Rattle.hier_once.proofs.Common.{RawNetlist, Building, signal, Follows, direct, further, step_of, stepped, DesignError, IsEnding}
 use Rattle.std.proofs.lemmas.Bool.{cases_lt}
-use Rattle.mcy_base.specs.declared.kind.Kind.{Kind}
 use Rattle.mcy_base.specs.declared.kind.Kind.TheVariants as kind
 use Rattle.mcy_base.specs.declared.span.Span.{Span}
-use Rattle.netlist_core.specs.declared.bit.Bit.{Bit}
 use Rattle.netlist_core.specs.declared.bit.Bit.TheVariants.{Fixed, Net}
 use Rattle.netlist_core.specs.declared.cell.Cell.{Cell}
-use Rattle.netlist_core.specs.declared.port.Register.{Register}
-use Rattle.netlist_core.specs.declared.raw.RawNetlist.{RawNetlist}
-use Rattle.netlist_core.specs.Orders.{IsOnLoop}
+use Rattle.netlist_core.specs.Orders.{Reads, IsOnLoop}
 use Rattle.netlist_core.specs.Checked.{IsFirst, Never, net_bits}
 use Rattle.net_builder.specs.declared.steps.Step.TheVariants.{On}
-use Rattle.net_builder.specs.Building.{Building, signal}
-use Rattle.net_builder.specs.Finished.{Follows, direct, further, step_of, stepped}
 use Rattle.net_builder.specs.Written.{joint_of}
 use Rattle.net_builder.proofs.Following.{leads_no_loop}
-use Rattle.elab_finish.specs.declared.error.DesignError.{DesignError}
 use Rattle.elab_finish.specs.declared.error.DesignError.TheVariants.{Loop, TooMany, Twice, Memory}
 use Rattle.elab_finish.specs.declared.left.Left.{Left}
-use Rattle.elab_finish.specs.Endings.{IsEnding}
 use Rattle.elab_finish.specs.Loops.{IsFirstLooped, IsLeftLooped, next_of}
 use Rattle.elab_finish.specs.Names.{AreNamedApart, IsAgainAt, IsNamedAgain, IsRegisterAt}
 use Rattle.elab_finish.specs.Refusals.{IsAt, IsLeftAt, IsLoopAt, IsOver, IsRefused, IsWithin, max_net_bits, max_register_bits, register_bits}
@@ -74,7 +66,7 @@ place_once (Some cell) s t h g = sym h ∙ g
 
 loop_once : (b : Building) (n : RawNetlist) (s t : Span) → IsLoopAt b n s → IsLoopAt b n t → s ≡ t
 loop_once b n s t (c, first, at) (d, also, there) =
-    let same : d ≡ c = first_once (IsOnLoop n) d c also first in
+    let same : d ≡ c = first_once (IsOnLoop (Reads n)) d c also first in
     place_once (slice_get b.cells c) s t at (subst (λ (k : ℕ). IsAt (slice_get b.cells k) t) same there)
 
 named_place : (o : Option Register) (s t : Span) → IsRegisterAt o s → IsRegisterAt o t → s ≡ t
@@ -138,7 +130,7 @@ over_once b n (Twice s) Memory found also h g = absurd (also refl)
 over_once b n Memory y found also h g = absurd (found refl)
 
 -- a netlist that can be run within its limits, and whose registers have names of their own, is not refused
-sound_not_over : (b : Building) (n : RawNetlist) (x : DesignError) → x ≢ Memory → Never (IsOnLoop n) → IsWithin n → AreNamedApart n.registers → IsOver b n x → ⊥
+sound_not_over : (b : Building) (n : RawNetlist) (x : DesignError) → x ≢ Memory → Never (IsOnLoop (Reads n)) → IsWithin n → AreNamedApart n.registers → IsOver b n x → ⊥
 sound_not_over b n (Loop s) found none within apart (fits, named, (c, first, at)) = none c first.here
 sound_not_over b n (TooMany k) found none within apart over = within_not_over b n k within over
 sound_not_over b n (Twice s) found none within apart over = apart_none n.registers s apart over.1
@@ -179,7 +171,7 @@ module _ (b : Building) (top : List ℕ) (clock : Option (List ℕ)) (ins outs d
         over_once b n x y found also over (subst (λ (r : RawNetlist). IsOver b r y) same past)
 
   -- Where there is a netlist that can be run, none is refused.
-  pub ended_not_refused : (n : RawNetlist) (x : DesignError) → IsEnding b top clock ins outs declared n → IsWithin n → AreNamedApart n.registers → Never (IsOnLoop n) → IsRefused b top clock ins outs declared lefts x → x ≡ Memory
+  pub ended_not_refused : (n : RawNetlist) (x : DesignError) → IsEnding b top clock ins outs declared n → IsWithin n → AreNamedApart n.registers → Never (IsOnLoop (Reads n)) → IsRefused b top clock ins outs declared lefts x → x ≡ Memory
   ended_not_refused n x ends within apart none h = elim (memory_or x) [
     | inl is ↦ is
     | inr found ↦ elim (which_end x found h) [

@@ -1,13 +1,9 @@
 -- The source of modules is one: its flags are those of its inputs, and its ports those of its top.
-use Rattle.std.proofs.Common.{◌≡◌, ℕ, Bool, true, false, IsTrue, List, length, refl, sym, ap, ◌∙◌, subst}
-use Rattle.std.specs.Prelude.{slice_index_or}
-use Rattle.std.proofs.lemmas.List.{ext_get_or}
+use Rattle.hier_once.proofs.Common.{◌≡◌, ℕ, Bool, true, false, IsTrue, List, length, refl, sym, ap, ◌∙◌, subst, slice_index_or, ext_get_or, Flat, Source, AreFlags, IsSource, all_inputs}
 use Rattle.vlog_syntax.specs.declared.identifier.Identifier.{Identifier}
 use Rattle.vlog_syntax.specs.declared.module.Module.{Module}
 use Rattle.flat_scopes.specs.Wires.{ports_of}
-use Rattle.flat_items.specs.Flattened.{Flat}
 use Rattle.flat_once.proofs.Flattened.{flattens_once, has_one_top}
-use Rattle.elab_hier.specs.Tops.{Source, AreFlags, IsSource, all_inputs}
 
 flag_once : (x y : Bool) → (IsTrue x → IsTrue y) → (IsTrue y → IsTrue x) → x ≡ y
 flag_once true true f g = refl

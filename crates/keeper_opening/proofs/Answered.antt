@@ -1,15 +1,8 @@
 -- What the answer of an opening says of the connection after it.
-use Rattle.std.proofs.Common.{◌≡◌, ◌∙◌, Option, None, Ok, Err, Result, ap}
-use Rattle.std.specs.Prelude.{is_some}
-use Rattle.sqlite.specs.Held.{Held}
-use Rattle.std.specs.Option.{option_or}
-use Rattle.mcy_keeper.specs.declared.keeper.KeepError.{KeepError}
+use Rattle.keeper_opening.proofs.Common.{◌≡◌, ◌∙◌, Option, None, Ok, Err, Result, ap, is_some, Held, option_or, KeepError, Place, Closed, Opened, Answers, IfRefused, IsUnanswered, noted_cause}
 use Rattle.keeper_opening.specs.declared.opening.DatabaseFault.{DatabaseFault}
 use Rattle.keeper_opening.specs.declared.opening.OpenError.{OpenError}
 use Rattle.keeper_opening.specs.declared.opening.OpenError.TheVariants.{Memory, Refused}
-use Rattle.keeper_opening.specs.declared.opening.Place.{Place}
-use Rattle.keeper_opening.specs.declared.opening.Place.TheVariants.{Closed, Opened}
-use Rattle.keeper_opening.specs.Places.{Answers, IfRefused, IsUnanswered, noted_cause}
 
 -- a cause that is noted is the one that was told
 pub noted_after : {T : Type 0} (noted old found : Option DatabaseFault) (loaded : Result T KeepError) (cause : DatabaseFault) → noted ≡ option_or old found → found ≡ noted_cause loaded cause

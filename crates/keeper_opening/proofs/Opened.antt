@@ -1,19 +1,11 @@
 -- What may be left after the opening was found.
-use Rattle.std.specs.Prelude.{IsErrOf}
-use Rattle.std.proofs.Common.{◌≡◌, inl, Option, Some, None, Ok, Err, Result, IfOk, OnErr, IsTrue, refl, sym, subst}
+use Rattle.keeper_opening.proofs.Common.{IsErrOf, ◌≡◌, inl, Option, Some, None, Ok, Err, Result, IfOk, OnErr, IsTrue, refl, sym, subst, Held, state, Book, LeavesEither, LeavesNothingNew, KeepError}
+use Rattle.keeper_opening.proofs.Common.{StandsAs, Tells, Holds, Leaves, Place, Closed, Opened, PlaceTells, PlaceHolds, PlaceLeaves, Opens}
 use Rattle.sqlite.specs.Tree.{Trees}
 use Rattle.sqlite.specs.Store.{Ghosts}
-use Rattle.sqlite.specs.Held.{Held, state}
-use Rattle.mcy_keeper.specs.declared.book.Book.{Book}
-use Rattle.mcy_keeper.specs.Books.{LeavesEither, LeavesNothingNew}
-use Rattle.mcy_keeper.specs.declared.keeper.KeepError.{KeepError}
 use Rattle.mcy_keeper.specs.declared.keeper.KeepError.TheVariants.{Fault}
 use Rattle.keeper_sqlite.specs.declared.sql_keeper.SqlKeeper.{SqlKeeper}
-use Rattle.keeper_sqlite.specs.Stands.{StandsAs, Tells, Holds, Leaves}
-use Rattle.keeper_opening.specs.declared.opening.Place.{Place}
-use Rattle.keeper_opening.specs.declared.opening.Place.TheVariants.{Closed, Opened}
 use Rattle.keeper_opening.specs.Found.{MayBeFound, Finds}
-use Rattle.keeper_opening.specs.Places.{PlaceTells, PlaceHolds, PlaceLeaves, Opens}
 
 module _ {S : Type 0} (g : Ghosts S) where
   -- an open store leaves what it has committed

@@ -16,6 +16,8 @@ MayBeFound found left = ((trees : Trees) × found trees × StandsAs trees left) 
 abbrev pub Finds : (Trees → Type 0) → State → Type 0
 Finds found s = HasCleanDisk s → IsTrue s.is_open × found s.committed.trees
 
+-- For proofs alone.
+
 -- a keeper over this connection has loaded nothing, and counted no fault; where there is a connection, it shows what may be found
 pub record IsFresh {S : Type 0} (g : Ghosts S) (found : Trees → Type 0) (connection : Option (Held S)) (settled : Bool) (faults : ℕ) : Type 0 where
   pub finds : (c : Held S) → connection ≡ Some c → Finds found (state g c)

@@ -40,40 +40,6 @@ connection_in k = connection_of k.place
 abbrev pub fault_of : {S O : Type 0} → OpeningKeeper S O → Option DatabaseFault
 fault_of k = k.fault
 
--- the cause, where a call has answered a fault
-abbrev pub noted_cause : {T : Type 0} → Result T KeepError → DatabaseFault → Option DatabaseFault
-noted_cause (Err Fault) cause = Some cause
-noted_cause (Err NoMemory) cause = None
-noted_cause (Ok answer) cause = None
-
--- where the opening was refused, so it is with the reason
-abbrev pub IfRefused : {H : Type 0} → Result H OpenError → (DatabaseFault → Type 0) → Type 0
-IfRefused (Err (Refused fault)) IsTold = IsTold fault
-IfRefused (Err Memory) IsTold = ⊤
-IfRefused (Ok connection) IsTold = ⊤
-
--- The opening has answered: there is a connection just where it gave one, and the reason of a refusal is told.
-pub record HasAnswered {H : Type 0} (gives : Result H OpenError → Type 0) (connection : Option H) (IsTold : DatabaseFault → Type 0) : Type 0 where
-  pub answer : Result H OpenError
-  pub given : gives answer
-  pub connected : is_some connection ≡ is_ok answer
-  pub refused : IfRefused answer IsTold
-
-module _ {S O : Type 0} (gives : O → Result (Held S) OpenError → Type 0) where
-  -- The first load asks the opening, and later ones neither find a connection nor let one go.
-  abbrev pub Answers : Place S O → Option (Held S) → (DatabaseFault → Type 0) → Type 0
-  Answers (Closed opener) connection IsTold = HasAnswered (gives opener) connection IsTold
-  Answers (Opened it) connection IsTold = is_some connection ≡ is_some it.connection
-
-  -- the opening found no memory
-  abbrev pub IsUnanswered : Place S O → Type 0
-  IsUnanswered (Closed opener) = gives opener (Err Memory)
-  IsUnanswered (Opened it) = ⊥
-
-  -- so it is of a load, where the first cause of a fault is kept
-  abbrev pub Connects : OpeningKeeper S O → OpeningKeeper S O → {T : Type 0} → Result T KeepError → Type 0
-  Connects old new loaded = Answers old.place (connection_in new) (λ fault. fault_of new ≡ option_or (fault_of old) (noted_cause loaded fault))
-
 module _ {S O : Type 0} (g : Ghosts S) where
   abbrev pub PlaceTells : Place S O → Type 0
   PlaceTells (Closed opener) = ⊤
@@ -115,3 +81,39 @@ module _ {S O : Type 0} (g : Ghosts S) where
   place_survives survives found (Closed opener) tells none =
       none None (inr (refl, λ trees finds. none None (inl (trees, finds, λ book stands. none (Some book) (inl (trees, finds, stands))))))
   place_survives survives found (Opened it) tells none = leaves_some g survives it.connection tells none
+
+-- For proofs alone.
+
+-- the cause, where a call has answered a fault
+abbrev pub noted_cause : {T : Type 0} → Result T KeepError → DatabaseFault → Option DatabaseFault
+noted_cause (Err Fault) cause = Some cause
+noted_cause (Err NoMemory) cause = None
+noted_cause (Ok answer) cause = None
+
+-- where the opening was refused, so it is with the reason
+abbrev pub IfRefused : {H : Type 0} → Result H OpenError → (DatabaseFault → Type 0) → Type 0
+IfRefused (Err (Refused fault)) IsTold = IsTold fault
+IfRefused (Err Memory) IsTold = ⊤
+IfRefused (Ok connection) IsTold = ⊤
+
+-- The opening has answered: there is a connection just where it gave one, and the reason of a refusal is told.
+pub record HasAnswered {H : Type 0} (gives : Result H OpenError → Type 0) (connection : Option H) (IsTold : DatabaseFault → Type 0) : Type 0 where
+  pub answer : Result H OpenError
+  pub given : gives answer
+  pub connected : is_some connection ≡ is_ok answer
+  pub refused : IfRefused answer IsTold
+
+module _ {S O : Type 0} (gives : O → Result (Held S) OpenError → Type 0) where
+  -- The first load asks the opening, and later ones neither find a connection nor let one go.
+  abbrev pub Answers : Place S O → Option (Held S) → (DatabaseFault → Type 0) → Type 0
+  Answers (Closed opener) connection IsTold = HasAnswered (gives opener) connection IsTold
+  Answers (Opened it) connection IsTold = is_some connection ≡ is_some it.connection
+
+  -- the opening found no memory
+  abbrev pub IsUnanswered : Place S O → Type 0
+  IsUnanswered (Closed opener) = gives opener (Err Memory)
+  IsUnanswered (Opened it) = ⊥
+
+  -- so it is of a load, where the first cause of a fault is kept
+  abbrev pub Connects : OpeningKeeper S O → OpeningKeeper S O → {T : Type 0} → Result T KeepError → Type 0
+  Connects old new loaded = Answers old.place (connection_in new) (λ fault. fault_of new ≡ option_or (fault_of old) (noted_cause loaded fault))

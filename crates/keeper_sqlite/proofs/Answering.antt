@@ -1,19 +1,8 @@
 -- What the answer of a write says of the write, and which journal can keep an entry.
-use Rattle.std.proofs.Common.{◌≡◌, inl, inr, Bool, Option, Some, None, refl, false, true, Ok, Err, Result, OnOk, OnErr, IsOk, IsErrOf, is_ok, subst}
+use Rattle.keeper_sqlite.proofs.Common.{◌≡◌, inl, inr, Bool, Option, Some, None, refl, false, true, Ok, Err, Result, OnOk, OnErr, IsOk, IsErrOf, is_ok, subst, cases_Bool, Ghosts, Held, Entry, Book}
+use Rattle.keeper_sqlite.proofs.Common.{is_first, IsFirst, JournalTable, First, Second, table_of, FitsTable, Holds, Refusal, NoMemory, Database}
 use Rattle.mcy_keeper.specs.declared.keeper.KeepError.{KeepError}
 use Rattle.mcy_keeper.specs.declared.keeper.KeepError.TheVariants.{Fault, Memory}
-use Rattle.std.proofs.lemmas.Bool.{cases_Bool}
-use Rattle.sqlite.specs.Store.{Ghosts}
-use Rattle.sqlite.specs.Held.{Held}
-use Rattle.mcy_keeper.specs.declared.book.Entry.{Entry}
-use Rattle.mcy_keeper.specs.declared.book.Book.{Book}
-use Rattle.mcy_keeper.specs.Books.{is_first, IsFirst}
-use Rattle.keeper_sqlite.specs.declared.read.JournalTable.{JournalTable}
-use Rattle.keeper_sqlite.specs.declared.read.JournalTable.TheVariants.{First, Second}
-use Rattle.keeper_sqlite.specs.Rows.{table_of, FitsTable}
-use Rattle.keeper_sqlite.specs.Stands.{Holds}
-use Rattle.keeper_sqlite.specs.declared.refusal.Refusal.{Refusal}
-use Rattle.keeper_sqlite.specs.declared.refusal.Refusal.TheVariants.{Memory as NoMemory, Database}
 
 -- where the answer is a fault, the write was refused
 pub refused_write : (written : Result (Unit {0}) Refusal) (answer : Result (Unit {0}) KeepError) (A : Type 0) {P : Type 0} → OnOk written (A × IsOk answer) → IsErrOf answer Fault → OnErr written P → P

@@ -1,31 +1,12 @@
 -- What an INSERT of one item adds.
-use Rattle.std.proofs.Common.{◌≡◌, ◌≢◌, ◌⊎◌, ◌≤◌, arith, ◌+◌, ◌<◌, take, length, length-take, get_or, append_assoc, IsTrue, inl, ℕ, pos, List, [], ◌∷◌, ◌++◌, true, None, Ok, Err, Option, Result, OnOk, refl, sym, ap, subst, ◌∙◌, codes, IsPermutation}
-use Rattle.std.proofs.lemmas.List.Sorted.{IsPermutation-refl, IsPermutation-trans, IsPermutation-cons, IsPermutation-middle}
-use Rattle.sqlite.specs.declared.types.Value.TheVariants.{Null, Int, Blob}
-use Rattle.sqlite.specs.Order.{Row}
-use Rattle.sqlite.specs.Tree.{Trees, put_row}
-use Rattle.sqlite.specs.Table.{Table}
-use Rattle.sqlite.specs.Kind.TheVariants.{Blob as Bytes_kind}
-use Rattle.sqlite.specs.Cast.{cast, cast_row}
-use Rattle.sqlite.specs.Rowids.TheVariants.{Chosen}
-use Rattle.sqlite.specs.Edit.{edit_of, are_fresh, with_rowid, put_all}
-use Rattle.sqlite.specs.Source.TheVariants.{Values}
-use Rattle.sqlite.specs.Command.TheVariants.{Insert}
-use Rattle.sqlite.specs.Rows.{Written}
-use Rattle.sqlite.specs.Does.{Tally, Does}
-use Rattle.sqlite.specs.declared.run.Mode.{Mode}
+use Rattle.keeper_sqlite.proofs.Common.{◌≡◌, ◌≢◌, ◌⊎◌, ◌≤◌, arith, ◌+◌, ◌<◌, take, length, length-take, get_or, append_assoc, IsTrue, inl, ℕ, pos, List, [], ◌∷◌, ◌++◌, true, None, Ok, Err, Option}
+use Rattle.keeper_sqlite.proofs.Common.{Result, OnOk, refl, sym, ap, subst, ◌∙◌, codes, IsPermutation, IsPermutation-trans, IsPermutation-cons, IsPermutation-middle, Null, Int, Blob, Row, Trees}
+use Rattle.keeper_sqlite.proofs.Common.{put_row, Table, Chosen, edit_of, are_fresh, with_rowid, put_all, Values, Insert, Written, Tally, Does, Mode, State, Executes, ExecutesInside, HasCleanDisk}
+use Rattle.keeper_sqlite.proofs.Common.{Survives, KeepsCommit, mode_of, survives_then, take_more, IsDatabase, understood, Error, one_step, runs_as, statement_of, BookTables, book_schema, rowid_table}
+use Rattle.keeper_sqlite.proofs.Common.{meta_columns, mutation_columns, second_tree, IsBookSchema, item_row, item_rows, shown_item, IsOfBook, Wrote, WritesInside, BeginsRows}
+use Rattle.sqlite.specs.Cast.{cast_row}
 use Rattle.sqlite.specs.Effect.{Database}
-use Rattle.sqlite.specs.State.{State, Executes, ExecutesInside, HasCleanDisk, Survives, KeepsCommit, mode_of}
-use Rattle.sqlite.proofs.StateLemmas.{survives_then}
-use Rattle.std.proofs.lemmas.List.{take_more}
-use Rattle.sqlite.specs.Effect.{IsDatabase}
-use Rattle.sqlite.specs.Listing.{understood}
-use Rattle.sqlite.specs.declared.error.Error.{Error}
-use Rattle.sqlite.proofs.Callers.{one_step, runs_as, statement_of}
-use Rattle.keeper_sqlite.specs.Tables.{BookTables, book_schema, rowid_table, meta_columns, mutation_columns, second_tree, IsBookSchema}
-use Rattle.keeper_sqlite.specs.Rows.{item_row, item_rows, shown_item}
-use Rattle.keeper_sqlite.specs.Writing.{IsOfBook, Wrote, WritesInside, BeginsRows}
-use Rattle.keeper_sqlite.proofs.Texts.{item_terms, insert_meta_text, insert_meta_is, insert_meta_plain, insert_mutation_text, insert_mutation_is, insert_mutation_plain}
+use Rattle.keeper_sqlite.proofs.Texts.{item_terms, insert_meta_text, insert_meta_means, insert_mutation_text, insert_mutation_means}
 use Rattle.keeper_sqlite.proofs.Inserts.{elsewhere, rows_at, tree_in, tree_high, of_book, cast_null, cast_int, put_permutes, not_both, went, same_value}
 
 -- ---- an item more
@@ -35,9 +16,6 @@ pub record AddsItem (tree : ℕ) (old new : Database) (number : ℕ) (body : Lis
   pub schema : new.schema ≡ old.schema
   pub own : IsPermutation (item_row number body ∷ old.trees tree) (new.trees tree)
   pub others : (t : ℕ) → t ≢ tree → IsOfBook old.schema t → new.trees t ≡ old.trees t
-
-same_blob : (b : List ℕ) → cast Bytes_kind (Blob b) ≡ Blob b
-same_blob b = refl
 
 module _ (t : BookTables) where
   abbrev pub meta_table : Table
@@ -70,7 +48,7 @@ module _ (t : BookTables) where
 
 meta_row : (old new : State) (n : ℕ) (body : List ℕ) (count : ℕ) (b : IsBookSchema old.now.schema) → Executes insert_meta_text (shown_item n body) old new (Ok count) → AddsItem 0 old.now new.now n body × IsDatabase new.now
 meta_row old new n body count b h =
-    let w = runs_as insert_meta_text (shown_item n body) old new _ b.is _ (insert_meta_is b.of) (insert_meta_plain b.of) count h in (
+    let w = runs_as insert_meta_text (shown_item n body) old new _ b.is _ (insert_meta_means b.of).command (insert_meta_means b.of).plain count h in (
       adds_meta b.of old.step_limit (mode_of old) (statement_of insert_meta_text (understood (book_schema b.of) insert_meta_text)) old.now new.now w.tally n body b.is w.changed,
       w.sound,
     )
@@ -112,7 +90,7 @@ module _ (t : BookTables) where
 
 mutation_row : (old new : State) (n : ℕ) (body : List ℕ) (count : ℕ) (b : IsBookSchema old.now.schema) → Executes insert_mutation_text (shown_item n body) old new (Ok count) → AddsItem 1 old.now new.now n body × IsDatabase new.now
 mutation_row old new n body count b h =
-    let w = runs_as insert_mutation_text (shown_item n body) old new _ b.is _ (insert_mutation_is b.of) (insert_mutation_plain b.of) count h in (
+    let w = runs_as insert_mutation_text (shown_item n body) old new _ b.is _ (insert_mutation_means b.of).command (insert_mutation_means b.of).plain count h in (
       adds_mutation b.of old.step_limit (mode_of old) (statement_of insert_mutation_text (understood (book_schema b.of) insert_mutation_text)) old.now new.now w.tally n body b.is w.changed,
       w.sound,
     )
@@ -125,20 +103,11 @@ wrote_mutation old new n body (Ok count) h b =
 
 -- ---- a run of statements
 
-pub survives_self : (s : State) → Survives s s (λ _. ⊥)
-survives_self s = record { clean = omega arith; shield = λ h. h; counts = omega arith; limit = refl; closes = λ _ h. inl h; crash = λ _ db left. inl left }
-
 pub survives_on : (a b c : State) → Survives a b (λ _. ⊥) → Survives b c (λ _. ⊥) → Survives a c (λ _. ⊥)
 survives_on a b c p q = survives_then a b c _ _ (λ _. ⊥) (λ _ db none. none) (λ _ db none. none) p q
 
-pub keeps_self : (s : State) → KeepsCommit s s
-keeps_self s = record { was_open = λ h. h; committed = λ _. refl }
-
 pub keeps_on : (a b c : State) → KeepsCommit a b → KeepsCommit b c → KeepsCommit a c
 keeps_on a b c p q = record { was_open = λ h. p.was_open (q.was_open h); committed = λ h. q.committed h ∙ p.committed (q.was_open h) }
-
-pub wrote_none : (tree : ℕ) (s : State) → IsTrue s.in_transaction → Wrote tree [] s s
-wrote_none tree s mode = record { schema = refl; own = IsPermutation-refl _; others = λ t other low. refl; sound = λ h. h; committed = refl; mode = mode }
 
 pub wrote_more : (tree : ℕ) (rows : List Row) (row : Row) (a b c : State) → Wrote tree rows a b → Wrote tree (row ∷ []) b c → Wrote tree (rows ++ row ∷ []) a c
 wrote_more tree rows row a b c p q = record {

@@ -1,73 +1,91 @@
 -- What the statements that make the tables of an empty book leave.
-use Rattle.std.proofs.Common.{◌≡◌, List, [], refl, sym, ap, subst, ◌∙◌, ℕ, None, false, Ok, Err, Result, OnOk, IsPermutation}
-use Rattle.std.proofs.lemmas.List.Sorted.{IsPermutation-refl}
-use Rattle.sqlite.specs.Order.{Row}
-use Rattle.sqlite.specs.Table.{Table}
-use Rattle.sqlite.specs.Schema.{Schema}
-use Rattle.sqlite.specs.Tree.{Trees}
-use Rattle.sqlite_resolve.specs.declared.error.CompileError.{CompileError}
-use Rattle.sqlite.specs.declared.error.Error.{Error}
-use Rattle.sqlite.specs.Compile.{table_defined_by}
-use Rattle.sqlite.specs.Change.{created, next_tree, KeepsRows}
-use Rattle.sqlite.specs.Does.{Tally, lacks_sequence}
-use Rattle.sqlite.specs.Listing.{understood}
+use Rattle.keeper_sqlite.proofs.Common.{◌≡◌, List, [], ◌∷◌, refl, sym, ap, subst, ◌∙◌, ℕ, codes, None, false, Ok, Err, Result, OnOk, IsPermutation, IsPermutation-refl, Row, Table, Schema, Trees, CompileError}
+use Rattle.keeper_sqlite.proofs.Common.{Error, table_defined_by, created, next_tree, KeepsRows, Tally, lacks_sequence, State, Writes, ExecutesInside, MakeTable}
+use Rattle.keeper_sqlite.proofs.Common.{runs_as, everything, CREATE_META, CREATE_MUTATIONS, CREATE_JOURNAL, first_schema, journal_columns, meta_columns, mutation_columns, no_schema, rowid_table, second_columns, IsBookSchema, IsFirstSchema, first_tables, format, of_second}
+use Rattle.keeper_sqlite.proofs.Common.{tables, HoldsBook, no_table, defined, meta_table, mutations_table, journal_table, second_table, schema_of_meta, schema_of_items, schema_of_first}
+use Rattle.keeper_sqlite.proofs.Common.{schema_of_book, MakesTable, HasCreated, blank}
+use Rattle.std.proofs.Common.{ap₂}
 use Rattle.sqlite.specs.Effect.{Database}
-use Rattle.sqlite.specs.State.{State, Writes, ExecutesInside}
-use Rattle.sqlite_schema.specs.declared.command.Command.TheVariants.{CreateTable as MakeTable}
-use Rattle.sqlite.proofs.Callers.{IsPlain, command_of, statement_of, runs_as}
-use Rattle.sqlite_tied.specs.Compute.{everything}
-use Rattle.keeper_sqlite.specs.declared.statements.TheConstants.{CREATE_META, CREATE_MUTATIONS, CREATE_JOURNAL}
-use Rattle.keeper_sqlite.specs.Tables.{first_schema, no_schema, IsBookSchema, IsFirstSchema}
-use Rattle.keeper_sqlite.specs.Format.{first_tables, format, tables}
-use Rattle.keeper_sqlite.specs.Rows.{HoldsBook}
-use Rattle.keeper_sqlite.specs.Creating.{no_table, defined, meta_table, mutations_table, journal_table, second_table, schema_of_meta, schema_of_items, schema_of_first, schema_of_book, MakesTable}
-use Rattle.keeper_sqlite.specs.Making.{HasCreated}
+use Rattle.keeper_sqlite.specs.Format.{of_items, of_journal}
+use Rattle.keeper_sqlite.proofs.Meant.{Means, means}
 use Rattle.keeper_sqlite.proofs.Inserts.{went, same_value}
-use Rattle.mcy_keeper.specs.Books.{blank}
 
 defined_ok : (r : Result Table CompileError) (t : Table) → r ≡ Ok t → t ≡ defined r
 defined_ok r t e = sym (ap defined e)
 
-pub record Reads (schema : Schema) (text : List ℕ) : Type 0 where
-  pub command : command_of (understood schema text) ≡ MakeTable
-  pub statement : statement_of text (understood schema text) ≡ text
-  pub plain : IsPlain (understood schema text)
+abbrev pub Reads : Schema → List ℕ → Type 0
+Reads schema text = Means schema text MakeTable
 
-reads_meta : Reads no_schema CREATE_META.now
-unfolding understood everything
-reads_meta = record { command = refl; statement = refl; plain = (refl, refl) }
+-- The tables as their statements define them: each text is read once here, and what follows is over these.
+meta_is : meta_table ≡ rowid_table (codes "meta") 0 meta_columns of_items
+unfolding everything meta_table no_table
+meta_is = refl
 
-reads_mutations : Reads schema_of_meta CREATE_MUTATIONS.now
-unfolding understood everything schema_of_meta meta_table
-reads_mutations = record { command = refl; statement = refl; plain = (refl, refl) }
+mutations_is : mutations_table ≡ rowid_table (codes "mutations") 0 mutation_columns of_items
+unfolding everything mutations_table no_table
+mutations_is = refl
 
-reads_journal : Reads schema_of_items CREATE_JOURNAL.now
-unfolding understood everything schema_of_meta schema_of_items meta_table mutations_table
-reads_journal = record { command = refl; statement = refl; plain = (refl, refl) }
+journal_is : journal_table ≡ rowid_table (codes "journal") 0 journal_columns of_journal
+unfolding everything journal_table no_table
+journal_is = refl
 
--- the statements define the tables of the format
+second_is : second_table ≡ rowid_table (codes "journal2") 0 second_columns of_second
+unfolding everything second_table no_table
+second_is = refl
+
+-- the schema with the first of them, and with the first two
+abbrev meta_alone : Schema
+meta_alone = record { tables = rowid_table (codes "meta") 0 meta_columns of_items ∷ []; indexes = []; views = [] }
+
+abbrev items_alone : Schema
+items_alone = record {
+  tables = rowid_table (codes "meta") 0 meta_columns of_items ∷ rowid_table (codes "mutations") 1 mutation_columns of_items ∷ [];
+  indexes = [];
+  views = [];
+}
+
+with_meta : schema_of_meta ≡ meta_alone
+unfolding schema_of_meta
+with_meta = ap (created no_schema) meta_is
+
+with_items : schema_of_items ≡ items_alone
+unfolding schema_of_items
+with_items = ap₂ created with_meta mutations_is
+
+-- the first three are those of a database that knows the first format alone
+with_journal : schema_of_first ≡ first_schema first_tables
+unfolding everything schema_of_first
+with_journal = ap₂ created with_items journal_is
+
+pub first_alone : IsFirstSchema schema_of_first
+first_alone = record { of = first_tables; is = with_journal }
+
+-- and the four are those of the format
 format_is : schema_of_book ≡ format
-unfolding everything schema_of_meta schema_of_items schema_of_first schema_of_book meta_table mutations_table journal_table second_table no_table
-format_is = refl
+unfolding everything schema_of_book
+format_is = ap₂ created with_journal second_is
 
 book_is : IsBookSchema format
 book_is = record { of = tables; is = refl }
 
+reads_meta : Reads no_schema CREATE_META.now
+unfolding everything
+reads_meta = means no_schema CREATE_META.now MakeTable refl
+
+reads_mutations : Reads schema_of_meta CREATE_MUTATIONS.now
+unfolding everything
+reads_mutations = subst (λ s. Reads s CREATE_MUTATIONS.now) (sym with_meta) (means meta_alone CREATE_MUTATIONS.now MakeTable refl)
+
+reads_journal : Reads schema_of_items CREATE_JOURNAL.now
+unfolding everything
+reads_journal = subst (λ s. Reads s CREATE_JOURNAL.now) (sym with_items) (means items_alone CREATE_JOURNAL.now MakeTable refl)
+
 no_counters : (lacks_sequence schema_of_meta ≡ false) × (lacks_sequence schema_of_items ≡ false) × (lacks_sequence schema_of_first ≡ false)
-unfolding everything schema_of_meta schema_of_items schema_of_first meta_table mutations_table journal_table no_table
-no_counters = (refl, refl, refl)
-
--- the three are those of a database that knows the first format alone
-first_is : schema_of_first ≡ first_schema first_tables
-unfolding everything schema_of_meta schema_of_items schema_of_first meta_table mutations_table journal_table no_table
-first_is = refl
-
-pub first_alone : IsFirstSchema schema_of_first
-first_alone = record { of = first_tables; is = first_is }
+unfolding everything
+no_counters = (ap lacks_sequence with_meta, ap lacks_sequence with_items, ap lacks_sequence with_journal)
 
 next_trees : (next_tree schema_of_meta ≡ 1) × (next_tree schema_of_items ≡ 2) × (next_tree schema_of_first ≡ 4)
-unfolding everything schema_of_meta schema_of_items schema_of_first meta_table mutations_table journal_table no_table
-next_trees = (refl, refl, refl)
+next_trees = (ap next_tree with_meta, ap next_tree with_items, ap next_tree with_journal)
 
 -- ---- what one CREATE TABLE leaves
 
@@ -123,16 +141,13 @@ unfolding schema_of_book
 after_book = refl
 
 first_kept : (old new : Trees) → KeepsRows schema_of_meta.tables old new → new 0 ≡ old 0
-unfolding everything schema_of_meta meta_table no_table
-first_kept old new kept = kept.0
+first_kept old new kept = (subst (λ (s : Schema). KeepsRows s.tables old new) with_meta kept).0
 
 both_kept : (old new : Trees) → KeepsRows schema_of_items.tables old new → (new 0 ≡ old 0) × (new 1 ≡ old 1)
-unfolding everything schema_of_meta schema_of_items meta_table mutations_table no_table
-both_kept old new kept = (kept.0, kept.1.0)
+both_kept old new kept = let all = subst (λ (s : Schema). KeepsRows s.tables old new) with_items kept in (all.0, all.1.0)
 
 three_kept : (old new : Trees) → KeepsRows schema_of_first.tables old new → (new 0 ≡ old 0) × (new 1 ≡ old 1) × (new 2 ≡ old 2)
-unfolding everything schema_of_meta schema_of_items schema_of_first meta_table mutations_table journal_table no_table
-three_kept old new kept = (kept.0, kept.1.0, kept.1.1.0)
+three_kept old new kept = let all = subst (λ (s : Schema). KeepsRows s.tables old new) with_journal kept in (all.0, all.1.0, all.1.1.0)
 
 bare : (rows : List Row) → rows ≡ [] → IsPermutation [] rows
 bare rows none = subst (IsPermutation []) (sym none) (IsPermutation-refl [])

@@ -1,11 +1,5 @@
 -- The entry of a row, column by column.
-use Rattle.std.proofs.Common.{◌≡◌, pos, length, refl}
-use Rattle.sqlite.specs.declared.types.Value.TheVariants.{Int}
-use Rattle.sqlite.specs.Order.{Row, column}
-use Rattle.mcy_keeper.specs.declared.book.Entry.{Entry}
-use Rattle.keeper_sqlite.specs.declared.read.JournalTable.{JournalTable}
-use Rattle.keeper_sqlite.specs.declared.read.JournalTable.TheVariants.{First, Second}
-use Rattle.keeper_sqlite.specs.Rows.{shown_entry, FitsTable}
+use Rattle.keeper_sqlite.proofs.Common.{◌≡◌, pos, length, refl, Int, Row, column, Entry, JournalTable, First, Second, shown_entry, FitsTable}
 use Rattle.keeper_sqlite.proofs.Lists.{six_columns, seven_columns}
 
 -- a row of the table's width, whose columns are these numbers

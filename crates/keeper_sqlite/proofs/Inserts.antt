@@ -1,37 +1,14 @@
 -- What an INSERT of one row adds.
-use Rattle.std.proofs.Common.{◌≡◌, ◌≢◌, ◌<◌, ◌≤◌, append-nil, zero, suc, arith, ◌⊎◌, inl, inr, ℕ, ℤ, pos, List, [], ◌∷◌, Bool, true, false, not, cond, None, Ok, Err, Option, Result, OnOk, refl, sym, ap, subst, ◌∙◌, codes, IsPermutation, Ordering, Less, Equal, Greater, ◌&&◌}
-use Rattle.std.proofs.lemmas.List.Sorted.{IsPermutation-refl, IsPermutation-sym, IsPermutation-trans, IsPermutation-cons, IsPermutation-middle}
-use Rattle.sqlite.specs.declared.types.Value.{Value}
-use Rattle.sqlite.specs.declared.types.Value.TheVariants.{Null, Int}
-use Rattle.sqlite.specs.Order.{Row, value_cmp}
-use Rattle.sqlite.specs.Ops.{unary}
-use Rattle.sqlite.specs.Tree.{Trees, rowid, put_row}
-use Rattle.sqlite.specs.Schema.{Schema}
-use Rattle.sqlite.specs.Table.{Table}
-use Rattle.sqlite.specs.Kind.TheVariants.{Integer}
+use Rattle.keeper_sqlite.proofs.Common.{◌≡◌, ◌≢◌, ◌<◌, ◌≤◌, append-nil, zero, suc, arith, ◌⊎◌, inl, inr, ℕ, ℤ, pos, List, [], ◌∷◌, Bool, true, false, not, cond, None, Ok, Err, Option, Result, OnOk}
+use Rattle.keeper_sqlite.proofs.Common.{refl, sym, ap, subst, ◌∙◌, codes, IsPermutation, Ordering, Less, Equal, Greater, ◌&&◌, IsPermutation-refl, IsPermutation-sym, IsPermutation-trans}
+use Rattle.keeper_sqlite.proofs.Common.{IsPermutation-cons, IsPermutation-middle, Value, Null, Int, Row, value_cmp, unary, Trees, rowid, put_row, Schema, Table, Integer, Chosen, edit_of, is_taken}
+use Rattle.keeper_sqlite.proofs.Common.{are_fresh, with_rowid, put_all, Values, Insert, Written, Tally, Does, Mode, State, Executes, ExecutesInside, Writes, CommitsBy, MayCommit, text_of, mode_of}
+use Rattle.keeper_sqlite.proofs.Common.{understood, Error, one_step, runs_as, command_of, statement_of, IsPlain, Entry, BookTables, book_schema, rowid_table, journal_columns, second_columns}
+use Rattle.keeper_sqlite.proofs.Common.{second_tree, IsBookSchema, entry_row, other_of, rows_in, shown_entry, JournalTable, First, Second, insert_into, Wrote, AddsEntry, HasAdded, IsAdded}
 use Rattle.sqlite.specs.Cast.{cast, cast_row}
-use Rattle.sqlite.specs.Rowids.TheVariants.{Chosen}
-use Rattle.sqlite.specs.Edit.{edit_of, is_taken, are_fresh, with_rowid, put_all}
-use Rattle.sqlite.specs.Source.TheVariants.{Values}
 use Rattle.sqlite.specs.Command.{Command}
-use Rattle.sqlite.specs.Command.TheVariants.{Insert}
-use Rattle.sqlite.specs.Rows.{Written}
-use Rattle.sqlite.specs.Does.{Tally, Does}
-use Rattle.sqlite.specs.declared.run.Mode.{Mode}
 use Rattle.sqlite.specs.Effect.{Database}
-use Rattle.sqlite.specs.State.{State, Executes, ExecutesInside, Writes, CommitsBy, MayCommit, text_of, mode_of}
-use Rattle.sqlite.specs.Listing.{understood}
-use Rattle.sqlite.specs.declared.error.Error.{Error}
-use Rattle.sqlite.proofs.Callers.{one_step, runs_as, command_of, statement_of, IsPlain}
-use Rattle.mcy_keeper.specs.declared.book.Entry.{Entry}
-use Rattle.keeper_sqlite.specs.Tables.{BookTables, book_schema, rowid_table, journal_columns, second_columns, second_tree, IsBookSchema}
-use Rattle.keeper_sqlite.specs.Rows.{entry_row, other_of, rows_in, shown_entry}
-use Rattle.keeper_sqlite.specs.declared.read.JournalTable.{JournalTable}
-use Rattle.keeper_sqlite.specs.declared.read.JournalTable.TheVariants.{First, Second}
-use Rattle.keeper_sqlite.specs.Refusals.{insert_into}
-use Rattle.keeper_sqlite.specs.Writing.{Wrote}
-use Rattle.keeper_sqlite.specs.Changes.{AddsEntry, HasAdded, IsAdded}
-use Rattle.keeper_sqlite.proofs.Texts.{entry_terms, insert_entry_is, insert_entry_plain, bounded_terms, insert_bounded_text, insert_bounded_is, insert_bounded_plain}
+use Rattle.keeper_sqlite.proofs.Texts.{entry_terms, insert_entry_means, bounded_terms, insert_bounded_text, insert_bounded_means}
 
 either : (b : Bool) (x : Value) → cond b x x ≡ x
 either true x = refl
@@ -147,12 +124,12 @@ command_into First = Insert 2 (Values entry_terms 7)
 command_into Second = Insert 3 (Values bounded_terms 8)
 
 into_is : (table : JournalTable) (t : BookTables) → command_of (understood (book_schema t) (insert_into table)) ≡ command_into table
-into_is First t = insert_entry_is t
-into_is Second t = insert_bounded_is t
+into_is First t = (insert_entry_means t).command
+into_is Second t = (insert_bounded_means t).command
 
 into_plain : (table : JournalTable) (t : BookTables) → IsPlain (understood (book_schema t) (insert_into table))
-into_plain First t = insert_entry_plain t
-into_plain Second t = insert_bounded_plain t
+into_plain First t = (insert_entry_means t).plain
+into_plain Second t = (insert_bounded_means t).plain
 
 -- the rows of a journal, by its tree
 abbrev pub tree_in : Schema → JournalTable → ℕ
@@ -241,7 +218,7 @@ pub wrote_bounded : (old new : State) (e : Entry) (r : Result ℕ Error) → Exe
     → OnOk r (Wrote (second_tree old.now.schema) (entry_row Second e ∷ []) old new)
 wrote_bounded old new e (Err why) h b = tt
 wrote_bounded old new e (Ok count) h b =
-    let w = runs_as insert_bounded_text (shown_entry Second e) old new _ b.is _ (insert_bounded_is b.of) (insert_bounded_plain b.of) count h.0 in
+    let w = runs_as insert_bounded_text (shown_entry Second e) old new _ b.is _ (insert_bounded_means b.of).command (insert_bounded_means b.of).plain count h.0 in
     let it : AddsRow (second_tree old.now.schema) (entry_row Second e) old.now new.now =
     subst (λ n. AddsRow n (entry_row Second e) old.now new.now) (sym (ap second_tree b.is))
     (adds_second b.of old.step_limit (mode_of old) (statement_of insert_bounded_text (understood (book_schema b.of) insert_bounded_text)) old.now new.now w.tally e b.is w.changed) in

@@ -1,12 +1,7 @@
 -- What a query inside a transaction leaves, and what an empty answer says.
-use Rattle.std.proofs.Common.{◌≡◌, ◌⊎◌, arith, length, map, inl, inr, None, List, [], ◌∷◌, ℕ, IsTrue, IsPermutation, refl, sym, subst}
-use Rattle.std.proofs.lemmas.List.{length-map}
-use Rattle.std.proofs.lemmas.List.Sorted.{length_permutation}
-use Rattle.sqlite.specs.declared.error.Error.{Error}
-use Rattle.sqlite.specs.Clock.{timed}
-use Rattle.sqlite.specs.Listing.{understood}
+use Rattle.keeper_sqlite.proofs.Common.{◌≡◌, ◌⊎◌, arith, length, map, inl, inr, None, List, [], ◌∷◌, ℕ, IsTrue, IsPermutation, refl, sym, subst, length-map, length_permutation, Error, timed}
+use Rattle.keeper_sqlite.proofs.Common.{understood, State, FailsToQuery, FailsToShow, IsRolledBack, IsTooLate, IsUnchanged, KeepsCommit}
 use Rattle.sqlite.specs.Given.{IsPlain}
-use Rattle.sqlite.specs.State.{State, FailsToQuery, FailsToShow, IsRolledBack, IsTooLate, IsUnchanged, KeepsCommit}
 
 pub unchanged_keeps : (old new : State) → IsUnchanged old new → KeepsCommit old new
 unchanged_keeps old new same = record { was_open = λ is_open. same.0.was_open; committed = λ is_open. same.0.committed_is }

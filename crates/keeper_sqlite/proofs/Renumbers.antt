@@ -1,39 +1,14 @@
 -- What the UPDATE that sets the number of the format leaves.
-use Rattle.std.proofs.Common.{◌≡◌, ℕ, ◌+◌, ◌<◌, ◌≤◌, ◌⊎◌, arith, pos, negsuc, List, [], ◌∷◌, length, map, flat_map, Bool, true, false, not, cond, None, Some, Ok, Err, Result, OnOk, refl, sym, ap, subst, ◌∙◌, codes, is_eq, int_cmp, IsPermutation}
-use Rattle.std.specs.List.{list_all}
-use Rattle.std.proofs.lemmas.Bool.Decides.{nat_tests}
-use Rattle.std.proofs.lemmas.Int.{ints}
-use Rattle.std.proofs.lemmas.List.Sorted.{IsPermutation-cons, IsPermutation-map, IsPermutation-trans}
-use Rattle.sqlite.specs.declared.types.Value.TheVariants.{Null, Int, Blob}
-use Rattle.sqlite.specs.declared.error.Error.{Error}
-use Rattle.sqlite.specs.Collation.TheVariants.{Binary}
-use Rattle.sqlite.specs.Command.TheVariants.{Update}
-use Rattle.sqlite.specs.Does.{Tally, Does}
-use Rattle.sqlite.specs.Edit.{Edit, are_fresh, edit_of, edited, left_by}
+use Rattle.keeper_sqlite.proofs.Common.{◌≡◌, ℕ, ◌+◌, ◌<◌, ◌≤◌, ◌⊎◌, arith, pos, negsuc, List, [], ◌∷◌, length, map, flat_map, Bool, true, false, not, cond, None, Some, Ok, Err, Result, OnOk, refl}
+use Rattle.keeper_sqlite.proofs.Common.{sym, ap, subst, ◌∙◌, codes, is_eq, int_cmp, IsPermutation, list_all, nat_tests, ints, IsPermutation-cons, IsPermutation-map, IsPermutation-trans, Null, Int}
+use Rattle.keeper_sqlite.proofs.Common.{Blob, Error, Binary, Update, Tally, Does, Edit, are_fresh, edit_of, edited, left_by, understood, binary, is_true, from_truth, Row, overlay, IsAnswer, Output}
+use Rattle.keeper_sqlite.proofs.Common.{Query, inner, end, output, Given, Written, State, ExecutesInside, mode_of, Env, col, lit, op2, holds, Trees, has_rowid, put_row, without_rowid, one_step}
+use Rattle.keeper_sqlite.proofs.Common.{runs_as, statement_of, ids_of, everything, along_permutation, IsPermutation-filter, IsPermutation-flat_map, value_cmp-Int, in_second, second_number}
+use Rattle.keeper_sqlite.proofs.Common.{NUMBER_SECOND, BookTables, book_schema, meta_columns, rowid_table, second_tree, IsBookSchema, item_row, item_rows, Renumbers}
 use Rattle.sqlite.specs.Effect.{Database}
-use Rattle.sqlite.specs.Listing.{understood}
-use Rattle.sqlite.specs.Ops.{binary, is_true, from_truth}
-use Rattle.sqlite.specs.Order.{Row}
-use Rattle.sqlite.specs.Program.{overlay}
-use Rattle.sqlite.specs.Query.{IsAnswer, Output, Query, inner, end, output}
-use Rattle.sqlite.specs.Rowids.TheVariants.{Given}
-use Rattle.sqlite.specs.Rows.{Written}
-use Rattle.sqlite.specs.State.{State, ExecutesInside, mode_of}
-use Rattle.sqlite.specs.Term.{Env, col, lit, op2, holds}
-use Rattle.sqlite.specs.Tree.{Trees, has_rowid, put_row, without_rowid}
-use Rattle.sqlite.proofs.Callers.{one_step, runs_as, statement_of, command_of}
-use Rattle.sqlite_rules.specs.Calls.{ids_of}
 use Rattle.sqlite_sql.specs.declared.ops.BinaryOp.TheVariants.{Compare}
 use Rattle.sqlite_sql.specs.declared.ops.CompareOp.TheVariants.{Eq}
-use Rattle.sqlite_tied.specs.Compute.{everything}
-use Rattle.sqlite_trees.proofs.ListLemmas.{along_permutation, IsPermutation-filter, IsPermutation-flat_map}
-use Rattle.sqlite_value.proofs.OrderLemmas.{value_cmp-Int}
-use Rattle.mcy_keeper.specs.Books.{in_second, second_number}
-use Rattle.keeper_sqlite.specs.declared.statements.TheConstants.{NUMBER_SECOND}
-use Rattle.keeper_sqlite.specs.Tables.{BookTables, book_schema, meta_columns, rowid_table, second_tree, IsBookSchema}
-use Rattle.keeper_sqlite.specs.Rows.{item_row, item_rows}
-use Rattle.keeper_sqlite.specs.Upgrading.{Renumbers}
-use Rattle.keeper_sqlite.proofs.Texts.{number_plain}
+use Rattle.keeper_sqlite.proofs.Meant.{Means, means}
 use Rattle.keeper_sqlite.proofs.Begins.{cast_meta}
 use Rattle.keeper_sqlite.proofs.Inserts.{elsewhere, not_both, put_permutes, same_value, went}
 
@@ -51,9 +26,9 @@ numbering_query = record {
   offset = lit (Int (pos 0));
 }
 
-number_is : (t : BookTables) → command_of (understood (book_schema t) NUMBER_SECOND.now) ≡ Update 0 (record { lets = []; body = numbering_query })
-unfolding understood everything
-number_is t = refl
+number_means : (t : BookTables) → Means (book_schema t) NUMBER_SECOND.now (Update 0 (record { lets = []; body = numbering_query }))
+unfolding everything
+number_means t = means (book_schema t) NUMBER_SECOND.now _ refl
 
 -- ---- the row that is found
 
@@ -152,7 +127,7 @@ written t db (item ∷ more) same fresh =
 pub numbers : (old new : State) (r : Result ℕ Error) → ExecutesInside 0 NUMBER_SECOND.now [] old new r → IsBookSchema old.now.schema → OnOk r (Renumbers old new)
 numbers old new (Err e) h b = tt
 numbers old new (Ok count) h b =
-    let w = runs_as NUMBER_SECOND.now [] old new _ b.is _ (number_is b.of) (number_plain b.of) count h.0 in
+    let w = runs_as NUMBER_SECOND.now [] old new _ b.is _ (number_means b.of).command (number_means b.of).plain count h.0 in
     let db = old.now.trees in
     let text = statement_of NUMBER_SECOND.now (understood (book_schema b.of) NUMBER_SECOND.now) in
     let done = went (subst (λ s. Does old.step_limit (mode_of old) [] (record old.now { schema = s }) text None (Update 0 (record { lets = []; body = numbering_query })) (Ok (w.tally, new.now))) b.is w.changed) in

@@ -1,7 +1,7 @@
 -- What the text that makes `journal2` means beside three tables of any constraints.
-use Rattle.std.proofs.Common.{◌≡◌, ◌==◌, ◌&&◌, if◌then◌else◌, not, length, slice_range, Bool, codes, List, [], refl, sym, ap, subst, ◌∙◌, ℕ, None, Some, true, false, Ok, Err}
-use Rattle.sqlite.specs.Schema.{Schema}
-use Rattle.sqlite.specs.Listing.{understood}
+use Rattle.keeper_sqlite.proofs.Common.{◌≡◌, ◌==◌, ◌&&◌, if◌then◌else◌, not, length, slice_range, Bool, codes, List, [], refl, sym, ap, subst, ◌∙◌, ℕ, None, Some, true, false, Ok, Err, Schema}
+use Rattle.keeper_sqlite.proofs.Common.{understood, MakeTable, Exists, Unsupported, IsPlain, command_of, statement_of, everything, CREATE_SECOND, first_schema, FirstTables}
+use Rattle.sqlite.specs.Listing.{misses_table}
 use Rattle.sqlite_schema.specs.Names.{index_named, same_name, table_named, view_named}
 use Rattle.std.specs.Option.{option_or}
 use Rattle.sqlite_ast.specs.declared.CreateTable.{CreateTable}
@@ -9,19 +9,13 @@ use Rattle.sqlite_ast.specs.declared.Statement.{Statement}
 use Rattle.sqlite_ast.specs.declared.Statement.TheVariants as written
 use Rattle.sqlite_syntax.specs.declared.statement.Parsed.{Parsed}
 use Rattle.sqlite_schema.specs.declared.command.Command.{Command}
-use Rattle.sqlite_schema.specs.declared.command.Command.TheVariants.{CreateTable as MakeTable}
 use Rattle.sqlite_resolve.specs.Compile as resolver
 use Rattle.sqlite_resolve.specs.Compile.{compiled, create_table, first, is_attached, meaning, planned, returning, with_command}
 use Rattle.sqlite_resolve.specs.Define as define
 use Rattle.sqlite_resolve.specs.Scope.{Name}
 use Rattle.sqlite_resolve.specs.Lowering.{Checked, and_then}
-use Rattle.sqlite_resolve.specs.declared.compiled.Compiled.{Compiled}
-use Rattle.sqlite_resolve.specs.declared.error.CompileError.TheVariants.{Exists, Unsupported}
-use Rattle.sqlite.proofs.Callers.{IsPlain, command_of, statement_of}
-use Rattle.sqlite_tied.specs.Compute.{everything}
-use Rattle.keeper_sqlite.specs.declared.statements.TheConstants.{CREATE_SECOND}
-use Rattle.keeper_sqlite.specs.Tables.{first_schema, FirstTables}
 use Rattle.keeper_sqlite.proofs.Creates.{Reads}
+use Rattle.keeper_sqlite.proofs.Meant.{understood_by}
 
 -- the command of a table that is new
 abbrev new_table : CreateTable → Checked Command
@@ -101,10 +95,6 @@ create_taken : (t : FirstTables) (def : CreateTable) (at : ℕ) → def.name ≡
 unfolding create_table resolver.creates is_attached resolver.is_reserved same_name
 create_taken t def at name taken = rw (name, taken) refl
 
-understood_by : (schema : Schema) (text : List ℕ) (c : Compiled) → compiled schema text ≡ Ok c → understood schema text ≡ Ok c
-unfolding understood
-understood_by schema text c h = rw h refl
-
 refused_by : (schema : Schema) (text : List ℕ) → compiled schema text ≡ Err Exists → understood schema text ≡ Err Exists
 unfolding understood
 refused_by schema text h = rw h refl
@@ -113,8 +103,9 @@ refused_by schema text h = rw h refl
 pub reads_second : (t : FirstTables) → index_named (first_schema t) (codes "journal2") ≡ None → Reads (first_schema t) CREATE_SECOND.now
 reads_second t free =
     let it = second_text in
-    let known = understood_by (first_schema t) CREATE_SECOND.now _ (compiled_by (first_schema t) CREATE_SECOND.now it.parsed it.def (Ok MakeTable) it.is it.statement it.formats (create_free t it.def it.name free it.made)) in
-    record { command = ap command_of known; statement = ap (statement_of CREATE_SECOND.now) known ∙ it.text; plain = subst IsPlain (sym known) (refl, refl) }
+    let is = compiled_by (first_schema t) CREATE_SECOND.now it.parsed it.def (Ok MakeTable) it.is it.statement it.formats (create_free t it.def it.name free it.made) in
+    let known = understood_by (first_schema t) CREATE_SECOND.now _ is in
+    record { command = ap command_of known; statement = ap (statement_of CREATE_SECOND.now) known ∙ it.text; plain = subst IsPlain (sym known) (refl, refl); listing = ap misses_table is }
 
 -- where one has it, the text is refused
 pub taken_second : (t : FirstTables) (at : ℕ) → index_named (first_schema t) (codes "journal2") ≡ Some at → understood (first_schema t) CREATE_SECOND.now ≡ Err Exists

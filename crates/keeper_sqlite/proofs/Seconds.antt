@@ -1,29 +1,9 @@
 -- What the making of `journal2` beside three tables leaves.
-use Rattle.std.proofs.Common.{◌≡◌, ◌<◌, zero, suc, inr, codes, arith, List, [], refl, sym, ap, subst, ◌∙◌, ℕ, Option, None, Some, true, false, Ok, Err, Result, OnOk, IfErr, IsTrue}
-use Rattle.sqlite.specs.Schema.{Schema}
-use Rattle.sqlite.specs.Tree.{Trees}
-use Rattle.sqlite_resolve.specs.declared.error.CompileError.{CompileError}
-use Rattle.sqlite.specs.declared.error.Error.{Error}
-use Rattle.sqlite.specs.Compile.{table_defined_by}
-use Rattle.sqlite.specs.Change.{created, next_tree, KeepsRows}
-use Rattle.sqlite.specs.Does.{lacks_sequence}
-use Rattle.sqlite.specs.Listing.{understood}
-use Rattle.sqlite.specs.Effect.{IsDatabase}
-use Rattle.sqlite.specs.State.{State, Executes, ExecutesIn, ExecutesInside, KeepsCounts, Shows}
-use Rattle.sqlite.specs.Steps.{FailsToCommit}
-use Rattle.sqlite.specs.Store.{Ghosts}
-use Rattle.sqlite.specs.Held.{Held, state}
+use Rattle.keeper_sqlite.proofs.Common.{◌≡◌, ◌<◌, zero, suc, inr, codes, arith, List, [], refl, sym, ap, subst, ◌∙◌, ℕ, Option, None, Some, true, false, Ok, Err, Result, OnOk, IfErr, IsTrue, Schema}
+use Rattle.keeper_sqlite.proofs.Common.{Trees, CompileError, Error, table_defined_by, created, next_tree, KeepsRows, lacks_sequence, understood, IsDatabase, State, Executes, ExecutesIn}
+use Rattle.keeper_sqlite.proofs.Common.{ExecutesInside, KeepsCounts, Shows, FailsToCommit, Ghosts, Held, state, Compiled, Exists, everything, CREATE_SECOND, first_schema, FirstTables, IsFirstSchema}
+use Rattle.keeper_sqlite.proofs.Common.{rows_in, no_table, defined, second_table, MakesTable, AddsSecond, HasAddedSecond, MayMake, IsNotAddedTo, Second}
 use Rattle.sqlite_schema.specs.Names.{index_named}
-use Rattle.sqlite_resolve.specs.declared.compiled.Compiled.{Compiled}
-use Rattle.sqlite_resolve.specs.declared.error.CompileError.TheVariants.{Exists}
-use Rattle.sqlite_tied.specs.Compute.{everything}
-use Rattle.keeper_sqlite.specs.declared.statements.TheConstants.{CREATE_SECOND}
-use Rattle.keeper_sqlite.specs.Tables.{first_schema, FirstTables, IsFirstSchema}
-use Rattle.keeper_sqlite.specs.Rows.{rows_in}
-use Rattle.keeper_sqlite.specs.Creating.{no_table, defined, second_table, MakesTable}
-use Rattle.keeper_sqlite.specs.Making.{AddsSecond, HasAddedSecond, MayMake}
-use Rattle.keeper_sqlite.specs.Unloaded.{IsNotAddedTo}
-use Rattle.keeper_sqlite.specs.declared.read.JournalTable.TheVariants.{Second}
 use Rattle.keeper_sqlite.proofs.Creates.{creates}
 use Rattle.keeper_sqlite.proofs.SecondText.{reads_second, taken_second}
 

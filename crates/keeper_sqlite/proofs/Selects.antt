@@ -1,34 +1,17 @@
 -- What a SELECT of a whole table answers.
-use Rattle.std.proofs.Common.{codes, ◌≡◌, arith, ℕ, ◌+◌, List, [], ◌∷◌, map, flat_map, drop, Bool, true, false, not, ◌&&◌, Some, None, Ok, Err, Result, IfOk, OnOk, IsTrue, refl, sym, ap, subst, ◌∙◌, IsPermutation}
-use Rattle.std.specs.List.{AllByRecursion}
-use Rattle.std.proofs.lemmas.List.Sorted.{IsPermutation-map, IsPermutation-sym}
-use Rattle.std.proofs.lemmas.List.Concat.{flat_map_single}
+use Rattle.keeper_sqlite.proofs.Common.{codes, ◌≡◌, arith, ℕ, ◌+◌, List, [], ◌∷◌, map, flat_map, drop, Bool, true, false, not, ◌&&◌, Some, None, Ok, Err, Result, IfOk, OnOk, IsTrue, refl, sym, ap}
+use Rattle.keeper_sqlite.proofs.Common.{subst, ◌∙◌, IsPermutation, AllByRecursion, IsPermutation-map, IsPermutation-sym, flat_map_single, Value, Null, Int, Real, Text, Blob, Row, column, IsAnswer}
+use Rattle.keeper_sqlite.proofs.Common.{Output, Query, output, overlay, Trees, IsDatabase, State, Shown, ShowsRows, IsUnchanged, HasCleanDisk, Survives, CommitsShowing, understood, reads_listing}
+use Rattle.keeper_sqlite.proofs.Common.{IsSourceOf, timed, survives_weaker, Integer, Bytes_kind, is_null, reads_as, IsPlain, never_commits, unchanged_then, Entry, IsBookSchema, rowid_table}
+use Rattle.keeper_sqlite.proofs.Common.{key_column, blob_column, meta_columns, mutation_columns, journal_columns, second_columns, item_row, item_rows, rows_in, shown_items, entry_row, shown_entry}
+use Rattle.keeper_sqlite.proofs.Common.{JournalTable, First, Second, select_from}
 use Rattle.keeper_sqlite.proofs.Lists.{map-map}
-use Rattle.sqlite.specs.declared.types.Value.{Value}
-use Rattle.sqlite.specs.declared.types.Value.TheVariants.{Null, Int, Real, Text, Blob}
-use Rattle.sqlite.specs.Order.{Row, column}
-use Rattle.sqlite.specs.Query.{IsAnswer, Output, Query, output}
-use Rattle.sqlite.specs.Program.{overlay}
-use Rattle.sqlite.specs.Tree.{Trees}
-use Rattle.sqlite.specs.Effect.{Database, IsDatabase}
-use Rattle.sqlite.specs.State.{State, Shown, ShowsRows, IsUnchanged, HasCleanDisk, Survives, CommitsShowing}
-use Rattle.sqlite.specs.Listing.{understood, reads_listing, IsSourceOf}
-use Rattle.sqlite.specs.Clock.{timed}
-use Rattle.sqlite.proofs.StateLemmas.{survives_weaker}
-use Rattle.sqlite.specs.Kind.TheVariants.{Integer, Blob as Bytes_kind}
-use Rattle.sqlite.specs.Ops.{is_null}
+use Rattle.sqlite.specs.Effect.{Database}
 use Rattle.sqlite_schema.specs.declared.schema.Table.{Table}
 use Rattle.sqlite_schema.specs.declared.schema.Constraint.TheVariants.{Datatype, NotNull}
 use Rattle.sqlite_schema.specs.Rules.{is_of, are_typed, are_present, has_computed, Keeps}
-use Rattle.sqlite.proofs.Callers.{reads_as, IsPlain, never_commits, unchanged_then}
-use Rattle.mcy_keeper.specs.declared.book.Entry.{Entry}
-use Rattle.keeper_sqlite.specs.Tables.{IsBookSchema, rowid_table, key_column, blob_column, meta_columns, mutation_columns, journal_columns, second_columns}
 use Rattle.sqlite_schema.specs.declared.schema.Column.{Column}
-use Rattle.keeper_sqlite.specs.Rows.{item_row, item_rows, rows_in, shown_items, entry_row, shown_entry}
-use Rattle.keeper_sqlite.specs.declared.read.JournalTable.{JournalTable}
-use Rattle.keeper_sqlite.specs.declared.read.JournalTable.TheVariants.{First, Second}
-use Rattle.keeper_sqlite.specs.Unloaded.{select_from}
-use Rattle.keeper_sqlite.proofs.Texts.{select_entries_text, entries_query, select_entries_is, select_entries_plain, select_entries_listing, select_second_text, second_query, select_second_is, select_second_plain, select_second_listing, items_query, select_meta_text, select_meta_is, select_meta_plain, select_meta_listing, select_mutations_text, select_mutations_is, select_mutations_plain, select_mutations_listing}
+use Rattle.keeper_sqlite.proofs.Texts.{select_entries_text, entries_query, select_entries_means, select_second_text, second_query, select_second_means, items_query, select_meta_text, select_meta_means, select_mutations_text, select_mutations_means}
 
 -- a stored row of a journal as it is shown, and back
 abbrev pub show : JournalTable → Row → Row
@@ -66,10 +49,10 @@ answer_second db rows a = answer_by second_query (show Second) rows (db 4) db a 
 
 pub shown_rows : (table : JournalTable) (old new : State) (rows : List Row) (b : IsBookSchema old.now.schema) → Shown (select_from table) [] old new rows → IsPermutation (map (show table) (rows_in old.now.schema old.now.trees table)) rows
 shown_rows First old new rows b h =
-    let read = reads_as select_entries_text [] old new _ b.is _ (select_entries_is b.of) (select_entries_plain b.of) (select_entries_listing b.of) rows h in
+    let read = reads_as select_entries_text [] old new _ b.is _ (select_entries_means b.of).command (select_entries_means b.of).plain (select_entries_means b.of).listing rows h in
     answer_rows old.now.trees rows (read.answer Null)
 shown_rows Second old new rows b h =
-    let read = reads_as select_second_text [] old new _ b.is _ (select_second_is b.of) (select_second_plain b.of) (select_second_listing b.of) rows h in
+    let read = reads_as select_second_text [] old new _ b.is _ (select_second_means b.of).command (select_second_means b.of).plain (select_second_means b.of).listing rows h in
     subst (λ s. IsPermutation (map (show Second) (rows_in s old.now.trees Second)) rows) (sym b.is) (answer_second old.now.trees rows (read.answer Null))
 
 second : (a b : Bool) → a && b ≡ true → b ≡ true
@@ -167,8 +150,8 @@ pub commits_nothing : (text : List ℕ) (old new : State) → (HasCleanDisk old 
 commits_nothing text old new plain survives = survives_weaker old new _ _ (λ clean db. never_commits text [] old db (plain (omega (arith, survives.clean)))) survives
 
 pub entries_plain : (table : JournalTable) (old : State) → IsBookSchema old.now.schema → IsPlain (understood old.now.schema (select_from table))
-entries_plain First old b = subst (λ s. IsPlain (understood s select_entries_text)) (sym b.is) (select_entries_plain b.of)
-entries_plain Second old b = subst (λ s. IsPlain (understood s select_second_text)) (sym b.is) (select_second_plain b.of)
+entries_plain First old b = subst (λ s. IsPlain (understood s select_entries_text)) (sym b.is) (select_entries_means b.of).plain
+entries_plain Second old b = subst (λ s. IsPlain (understood s select_second_text)) (sym b.is) (select_second_means b.of).plain
 
 -- ---- a table of items
 
@@ -215,8 +198,8 @@ holds_meta old new bodies b sound h =
     let typed = subst (λ s. Keeps Datatype s old.now.trees) b.is (sound.obeys.rules Datatype) in
     let present = subst (λ s. Keeps NotNull s old.now.trees) b.is (sound.obeys.rules NotNull) in
     let full = all_whole_items (codes "item") (codes "body") (rowid_table (codes "meta") 0 meta_columns b.of.meta) (old.now.trees 0) typed.0 present.0 in
-    let answer = reads_as select_meta_text [] old new _ b.is _ (select_meta_is b.of) (select_meta_plain b.of)
-    (select_meta_listing b.of) (shown_items 0 bodies) h in
+    let answer = reads_as select_meta_text [] old new _ b.is _ (select_meta_means b.of).command (select_meta_means b.of).plain
+    (select_meta_means b.of).listing (shown_items 0 bodies) h in
     stored_items (old.now.trees 0) bodies full (answer_items 0 old.now.trees refl (shown_items 0 bodies) (answer.answer Null))
 
 holds_mutations : (old new : State) (bodies : List (List ℕ)) (b : IsBookSchema old.now.schema) → IsDatabase old.now → Shown select_mutations_text [] old new (shown_items 0 bodies) → IsPermutation (item_rows 0 bodies) (old.now.trees 1)
@@ -224,15 +207,15 @@ holds_mutations old new bodies b sound h =
     let typed = subst (λ s. Keeps Datatype s old.now.trees) b.is (sound.obeys.rules Datatype) in
     let present = subst (λ s. Keeps NotNull s old.now.trees) b.is (sound.obeys.rules NotNull) in
     let full = all_whole_items (codes "number") (codes "place") (rowid_table (codes "mutations") 1 mutation_columns b.of.mutations) (old.now.trees 1) typed.1.0 present.1.0 in
-    let answer = reads_as select_mutations_text [] old new _ b.is _ (select_mutations_is b.of) (select_mutations_plain b.of)
-    (select_mutations_listing b.of) (shown_items 0 bodies) h in
+    let answer = reads_as select_mutations_text [] old new _ b.is _ (select_mutations_means b.of).command (select_mutations_means b.of).plain
+    (select_mutations_means b.of).listing (shown_items 0 bodies) h in
     stored_items (old.now.trees 1) bodies full (answer_items 1 old.now.trees refl (shown_items 0 bodies) (answer.answer Null))
 
 pub meta_plain : (old : State) → IsBookSchema old.now.schema → IsPlain (understood old.now.schema select_meta_text)
-meta_plain old b = subst (λ s. IsPlain (understood s select_meta_text)) (sym b.is) (select_meta_plain b.of)
+meta_plain old b = subst (λ s. IsPlain (understood s select_meta_text)) (sym b.is) (select_meta_means b.of).plain
 
 pub mutations_plain : (old : State) → IsBookSchema old.now.schema → IsPlain (understood old.now.schema select_mutations_text)
-mutations_plain old b = subst (λ s. IsPlain (understood s select_mutations_text)) (sym b.is) (select_mutations_plain b.of)
+mutations_plain old b = subst (λ s. IsPlain (understood s select_mutations_text)) (sym b.is) (select_mutations_means b.of).plain
 
 -- ---- the statements
 

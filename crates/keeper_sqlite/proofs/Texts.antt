@@ -1,16 +1,8 @@
 -- What the texts mean under the schema of a book.
-use Rattle.std.proofs.Common.{◌≡◌, List, [], ◌∷◌, refl, ℕ, pos, negsuc, None, codes, false}
-use Rattle.sqlite.specs.declared.types.Value.TheVariants.{Null, Int}
-use Rattle.sqlite.specs.Collation.TheVariants.{Binary}
-use Rattle.sqlite.specs.Term.{Term, lit, col}
-use Rattle.sqlite.specs.Query.{Query, inner, end}
-use Rattle.sqlite.specs.Source.TheVariants.{Values}
-use Rattle.sqlite.specs.Command.TheVariants.{Delete, Insert, Select}
-use Rattle.sqlite_tied.specs.Compute.{everything}
-use Rattle.sqlite.specs.Listing.{understood, reads_listing}
-use Rattle.sqlite.proofs.Callers.{IsPlain, command_of}
-use Rattle.keeper_sqlite.specs.declared.statements.TheConstants.{CLEAR_JOURNAL, INSERT_BOUNDED, INSERT_ENTRY, INSERT_META, INSERT_MUTATION, NUMBER_SECOND, SELECT_JOURNAL, SELECT_META, SELECT_MUTATIONS, SELECT_SECOND}
-use Rattle.keeper_sqlite.specs.Tables.{BookTables, book_schema}
+use Rattle.keeper_sqlite.proofs.Common.{List, [], ◌∷◌, refl, ℕ, pos, negsuc, None, codes, false, Null, Int, Binary, Term, lit, col, Query, inner, end, Values, Delete, Insert, Select, everything}
+use Rattle.keeper_sqlite.proofs.Common.{CLEAR_JOURNAL, INSERT_BOUNDED, INSERT_ENTRY, INSERT_META, INSERT_MUTATION, SELECT_JOURNAL}
+use Rattle.keeper_sqlite.proofs.Common.{SELECT_META, SELECT_MUTATIONS, SELECT_SECOND, BookTables, book_schema}
+use Rattle.keeper_sqlite.proofs.Meant.{Means, means}
 
 abbrev pub insert_entry_text : List ℕ
 insert_entry_text = INSERT_ENTRY.now
@@ -101,94 +93,38 @@ abbrev pub insert_mutation_text : List ℕ
 insert_mutation_text = INSERT_MUTATION.now
 
 module _ (t : BookTables) where
-  pub insert_entry_is : command_of (understood (book_schema t) insert_entry_text) ≡ Insert 2 (Values entry_terms 7)
-  unfolding understood everything
-  insert_entry_is = refl
+  pub insert_entry_means : Means (book_schema t) insert_entry_text (Insert 2 (Values entry_terms 7))
+  unfolding everything
+  insert_entry_means = means (book_schema t) insert_entry_text _ refl
 
-  pub insert_entry_plain : IsPlain (understood (book_schema t) insert_entry_text)
-  unfolding understood everything
-  insert_entry_plain = (refl, refl)
+  pub select_entries_means : Means (book_schema t) select_entries_text (Select (record { lets = []; body = entries_query }) (codes "seq" ∷ codes "mutation" ∷ codes "test" ∷ codes "word" ∷ codes "mark" ∷ codes "tags" ∷ []))
+  unfolding everything
+  select_entries_means = means (book_schema t) select_entries_text _ refl
 
-  pub select_entries_is : command_of (understood (book_schema t) select_entries_text) ≡ Select (record { lets = []; body = entries_query }) (codes "seq" ∷ codes "mutation" ∷ codes "test" ∷ codes "word" ∷ codes "mark" ∷ codes "tags" ∷ [])
-  unfolding understood everything
-  select_entries_is = refl
+  pub select_meta_means : Means (book_schema t) select_meta_text (Select (record { lets = []; body = items_query 0 }) (codes "item" ∷ codes "body" ∷ []))
+  unfolding everything
+  select_meta_means = means (book_schema t) select_meta_text _ refl
 
-  pub select_entries_plain : IsPlain (understood (book_schema t) select_entries_text)
-  unfolding understood everything
-  select_entries_plain = (refl, refl)
+  pub select_mutations_means : Means (book_schema t) select_mutations_text (Select (record { lets = []; body = items_query 1 }) (codes "number" ∷ codes "place" ∷ []))
+  unfolding everything
+  select_mutations_means = means (book_schema t) select_mutations_text _ refl
 
-  pub select_entries_listing : reads_listing (book_schema t) select_entries_text ≡ false
-  unfolding understood everything
-  select_entries_listing = refl
+  pub insert_meta_means : Means (book_schema t) insert_meta_text (Insert 0 (Values item_terms 3))
+  unfolding everything
+  insert_meta_means = means (book_schema t) insert_meta_text _ refl
 
-  pub select_meta_is : command_of (understood (book_schema t) select_meta_text) ≡ Select (record { lets = []; body = items_query 0 }) (codes "item" ∷ codes "body" ∷ [])
-  unfolding understood everything
-  select_meta_is = refl
+  pub insert_mutation_means : Means (book_schema t) insert_mutation_text (Insert 1 (Values item_terms 3))
+  unfolding everything
+  insert_mutation_means = means (book_schema t) insert_mutation_text _ refl
 
-  pub select_meta_plain : IsPlain (understood (book_schema t) select_meta_text)
-  unfolding understood everything
-  select_meta_plain = (refl, refl)
+  pub insert_bounded_means : Means (book_schema t) insert_bounded_text (Insert 3 (Values bounded_terms 8))
+  unfolding everything
+  insert_bounded_means = means (book_schema t) insert_bounded_text _ refl
 
-  pub select_meta_listing : reads_listing (book_schema t) select_meta_text ≡ false
-  unfolding understood everything
-  select_meta_listing = refl
+  pub select_second_means : Means (book_schema t) select_second_text (Select (record { lets = []; body = second_query }) (codes "seq" ∷ codes "mutation" ∷ codes "test" ∷ codes "word" ∷ codes "mark" ∷ codes "tags" ∷ codes "bound" ∷ []))
+  unfolding everything
+  select_second_means = means (book_schema t) select_second_text _ refl
 
-  pub select_mutations_is : command_of (understood (book_schema t) select_mutations_text) ≡ Select (record { lets = []; body = items_query 1 }) (codes "number" ∷ codes "place" ∷ [])
-  unfolding understood everything
-  select_mutations_is = refl
-
-  pub select_mutations_plain : IsPlain (understood (book_schema t) select_mutations_text)
-  unfolding understood everything
-  select_mutations_plain = (refl, refl)
-
-  pub select_mutations_listing : reads_listing (book_schema t) select_mutations_text ≡ false
-  unfolding understood everything
-  select_mutations_listing = refl
-
-  pub insert_meta_is : command_of (understood (book_schema t) insert_meta_text) ≡ Insert 0 (Values item_terms 3)
-  unfolding understood everything
-  insert_meta_is = refl
-
-  pub insert_meta_plain : IsPlain (understood (book_schema t) insert_meta_text)
-  unfolding understood everything
-  insert_meta_plain = (refl, refl)
-
-  pub insert_mutation_is : command_of (understood (book_schema t) insert_mutation_text) ≡ Insert 1 (Values item_terms 3)
-  unfolding understood everything
-  insert_mutation_is = refl
-
-  pub insert_mutation_plain : IsPlain (understood (book_schema t) insert_mutation_text)
-  unfolding understood everything
-  insert_mutation_plain = (refl, refl)
-
-  pub insert_bounded_is : command_of (understood (book_schema t) insert_bounded_text) ≡ Insert 3 (Values bounded_terms 8)
-  unfolding understood everything
-  insert_bounded_is = refl
-
-  pub insert_bounded_plain : IsPlain (understood (book_schema t) insert_bounded_text)
-  unfolding understood everything
-  insert_bounded_plain = (refl, refl)
-
-  pub select_second_is : command_of (understood (book_schema t) select_second_text) ≡ Select (record { lets = []; body = second_query }) (codes "seq" ∷ codes "mutation" ∷ codes "test" ∷ codes "word" ∷ codes "mark" ∷ codes "tags" ∷ codes "bound" ∷ [])
-  unfolding understood everything
-  select_second_is = refl
-
-  pub select_second_plain : IsPlain (understood (book_schema t) select_second_text)
-  unfolding understood everything
-  select_second_plain = (refl, refl)
-
-  pub select_second_listing : reads_listing (book_schema t) select_second_text ≡ false
-  unfolding understood everything
-  select_second_listing = refl
-
-  pub clear_is : command_of (understood (book_schema t) CLEAR_JOURNAL.now) ≡ Delete 2 (record { lets = []; body = clearing_query })
-  unfolding understood everything
-  clear_is = refl
-
-  pub clear_plain : IsPlain (understood (book_schema t) CLEAR_JOURNAL.now)
-  unfolding understood everything
-  clear_plain = (refl, refl)
-
-  pub number_plain : IsPlain (understood (book_schema t) NUMBER_SECOND.now)
-  unfolding understood everything
-  number_plain = (refl, refl)
+  pub clear_means : Means (book_schema t) CLEAR_JOURNAL.now (Delete 2 (record { lets = []; body = clearing_query }))
+  unfolding everything
+  clear_means = means (book_schema t) CLEAR_JOURNAL.now _ refl

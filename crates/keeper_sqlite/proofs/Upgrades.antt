@@ -1,41 +1,15 @@
 -- What the migration to the second format writes.
-use Rattle.std.proofs.Common.{◌≡◌, ◌≤◌, ◌<◌, ◌⊎◌, codes, None, inl, inr, arith, ℕ, ℤ, pos, List, [], ◌∷◌, ◌++◌, map, true, false, Ok, Err, Result, OnOk, refl, sym, ap, subst, ◌∙◌, IsPermutation}
-use Rattle.std.specs.List.{AllByRecursion}
-use Rattle.std.proofs.lemmas.Bool.{cases_Bool}
-use Rattle.sqlite.specs.Order.{Row, column}
-use Rattle.sqlite.specs.Tree.{has_rowid, without_rowid}
-use Rattle.sqlite.specs.Tree.{Trees, rowid}
-use Rattle.sqlite.specs.Edit.{edit_of, id_in, without_all}
-use Rattle.sqlite.specs.Rowids.TheVariants.{Given}
-use Rattle.sqlite.specs.Rows.{Written}
-use Rattle.sqlite.specs.Does.{Tally, Does}
-use Rattle.sqlite.specs.Command.TheVariants.{Delete}
-use Rattle.sqlite.specs.Listing.{understood}
-use Rattle.sqlite_rules.specs.Calls.{ids_of}
-use Rattle.sqlite.specs.declared.types.Value.TheVariants.{Null, Int}
-use Rattle.sqlite.specs.declared.error.Error.{Error}
-use Rattle.sqlite.specs.Order.{value_cmp}
+use Rattle.keeper_sqlite.proofs.Common.{◌≡◌, ◌≤◌, ◌<◌, ◌⊎◌, codes, None, inl, inr, arith, ℕ, ℤ, pos, List, [], ◌∷◌, ◌++◌, map, true, false, Ok, Err, Result, OnOk, refl, sym, ap, subst, ◌∙◌}
+use Rattle.keeper_sqlite.proofs.Common.{IsPermutation, AllByRecursion, cases_Bool, Row, column, has_rowid, without_rowid, Trees, rowid, edit_of, id_in, without_all, Given, Written, Tally, Does}
+use Rattle.keeper_sqlite.proofs.Common.{Delete, understood, ids_of, Null, Int, Error, value_cmp, ints, nat_tests, value_cmp-Int, all_weaker, all-permutation, IsPermutation-map, IsPermutation-sym}
+use Rattle.keeper_sqlite.proofs.Common.{IsPermutation-trans, flat_map_single, one_step, runs_as, statement_of, CLEAR_JOURNAL, State, ExecutesInside, IsUnchanged, mode_of, Entry, with_bounds, First}
+use Rattle.keeper_sqlite.proofs.Common.{Second, IsBookSchema, book_schema, journal_columns, rowid_table, second_tree, entry_row, item_rows, rows_in, HoldsJournal, IsOfBook, Wrote, Clears, HasMoved}
+use Rattle.keeper_sqlite.proofs.Common.{Moves, Renumbers, UpgradesInside}
 use Rattle.std.specs.Ordering.{is_eq}
-use Rattle.std.proofs.lemmas.Int.{ints}
-use Rattle.std.proofs.lemmas.Bool.Decides.{nat_tests}
-use Rattle.sqlite_value.proofs.OrderLemmas.{value_cmp-Int}
-use Rattle.sqlite_trees.proofs.ListLemmas.{all_weaker, all-permutation}
-use Rattle.std.proofs.lemmas.List.Sorted.{IsPermutation-map, IsPermutation-sym, IsPermutation-trans}
-use Rattle.std.proofs.lemmas.List.Concat.{flat_map_single}
-use Rattle.sqlite.proofs.Callers.{one_step, runs_as, statement_of}
-use Rattle.keeper_sqlite.specs.declared.statements.TheConstants.{CLEAR_JOURNAL}
 use Rattle.keeper_sqlite.proofs.Lists.{map-map}
-use Rattle.keeper_sqlite.proofs.Texts.{clear_is, clear_plain, clearing_query}
+use Rattle.keeper_sqlite.proofs.Texts.{clear_means, clearing_query}
 use Rattle.keeper_sqlite.proofs.Selects.{answer_by}
 use Rattle.sqlite.specs.Effect.{Database}
-use Rattle.sqlite.specs.State.{State, ExecutesInside, IsUnchanged, mode_of}
-use Rattle.mcy_keeper.specs.declared.book.Entry.{Entry}
-use Rattle.mcy_keeper.specs.Books.{with_bounds}
-use Rattle.keeper_sqlite.specs.declared.read.JournalTable.TheVariants.{First, Second}
-use Rattle.keeper_sqlite.specs.Tables.{IsBookSchema, book_schema, journal_columns, rowid_table, second_tree}
-use Rattle.keeper_sqlite.specs.Rows.{entry_row, item_rows, rows_in, HoldsJournal}
-use Rattle.keeper_sqlite.specs.Writing.{IsOfBook, Wrote}
-use Rattle.keeper_sqlite.specs.Upgrading.{Clears, HasMoved, Moves, Renumbers, UpgradesInside}
 use Rattle.keeper_sqlite.proofs.Inserts.{elsewhere, rows_at, same_value, tree_apart, went}
 
 -- ---- rows that are taken out
@@ -84,7 +58,7 @@ cleared table found entries same shown =
 pub clears : (old new : State) (r : Result ℕ Error) → ExecutesInside 0 CLEAR_JOURNAL.now [] old new r → IsBookSchema old.now.schema → OnOk r (Clears old new)
 clears old new (Err e) h b = tt
 clears old new (Ok count) h b =
-    let w = runs_as CLEAR_JOURNAL.now [] old new _ b.is _ (clear_is b.of) (clear_plain b.of) count h.0 in
+    let w = runs_as CLEAR_JOURNAL.now [] old new _ b.is _ (clear_means b.of).command (clear_means b.of).plain count h.0 in
     let db = old.now.trees in
     let table = rowid_table (codes "journal") 2 journal_columns b.of.journal in
     let text = statement_of CLEAR_JOURNAL.now (understood (book_schema b.of) CLEAR_JOURNAL.now) in

@@ -7,6 +7,8 @@ use Rattle.mcy_keeper.specs.declared.book.Entry.{Entry}
 use Rattle.keeper_sqlite.specs.declared.read.JournalTable.{JournalTable}
 use Rattle.keeper_sqlite.specs.Rows.{entry_row, other_of, rows_in}
 
+-- For proofs alone.
+
 -- this journal has one row more
 pub record AddsEntry (table : JournalTable) (old new : Database) (entry : Entry) : Type 0 where
   pub schema : new.schema ≡ old.schema

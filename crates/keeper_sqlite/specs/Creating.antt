@@ -10,6 +10,8 @@ use Rattle.sqlite.specs.State.{State}
 use Rattle.keeper_sqlite.specs.declared.statements.TheConstants.{CREATE_META, CREATE_MUTATIONS, CREATE_JOURNAL, CREATE_SECOND}
 use Rattle.keeper_sqlite.specs.Tables.{rowid_table, no_schema}
 
+-- For proofs alone.
+
 -- it stands for a text that defines no table, as none of the four does
 unfoldable pub no_table : Table
 no_table = rowid_table [] 0 [] (record { primary = []; uniques = []; orders = []; checks = [] })

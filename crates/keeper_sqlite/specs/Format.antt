@@ -10,6 +10,8 @@ use Rattle.sqlite_sql.specs.declared.ops.CompareOp.TheVariants.{Ge, Le}
 use Rattle.sqlite_schema.specs.declared.schema.Index.{Index}
 use Rattle.keeper_sqlite.specs.Tables.{Constraints, FirstTables, BookTables, first_schema, book_schema}
 
+-- For proofs alone.
+
 -- CHECK(c BETWEEN 0 AND 4294967295), where c has this place in the row: 0 is the key, and the columns have the places from 1 on
 abbrev pub is_u32 : ℕ → Term
 is_u32 place = op2 And (op2 (Compare Ge Binary) (col 1 place) (lit (Int (pos 0)))) (op2 (Compare Le Binary) (col 1 place) (lit (Int (pos 4294967295))))

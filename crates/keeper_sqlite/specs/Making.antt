@@ -15,6 +15,8 @@ use Rattle.keeper_sqlite.specs.Tables.{IsBookSchema, IsFirstSchema, no_schema}
 use Rattle.keeper_sqlite.specs.Format.{format}
 use Rattle.mcy_keeper.specs.declared.book.Book.{Book}
 
+-- For proofs alone.
+
 -- the transaction has the tables of the format, and they are empty
 pub record HasCreated (old new : State) : Type 0 where
   pub was_open : IsTrue old.is_open

@@ -16,6 +16,8 @@ use Rattle.keeper_sqlite.specs.declared.read.JournalTable.{JournalTable}
 use Rattle.keeper_sqlite.specs.declared.read.JournalTable.TheVariants.{First, Second}
 use Rattle.keeper_sqlite.specs.Rows.{shown_entry}
 
+-- For proofs alone.
+
 abbrev pub refusal_of : Error → Refusal
 refusal_of (SqliteFailure OutOfMemory) = Memory
 refusal_of _ = Database

@@ -15,11 +15,6 @@ use Rattle.keeper_sqlite.specs.declared.read.JournalTable.{JournalTable}
 use Rattle.keeper_sqlite.specs.declared.read.JournalTable.TheVariants.{First, Second}
 use Rattle.keeper_sqlite.specs.declared.read.ItemTable.TheVariants.{Meta, Mutations}
 
--- the tree of a table of items
-abbrev pub tree_of : ItemTable → ℕ
-tree_of Meta = 0
-tree_of Mutations = 1
-
 -- the journal that does not have the rows
 abbrev pub other_of : JournalTable → JournalTable
 other_of First = Second
@@ -44,10 +39,6 @@ abbrev pub entry_row : JournalTable → Entry → Row
 entry_row First e = Int (pos e.seq) ∷ Null ∷ Int (pos e.mutation) ∷ Int (pos e.test) ∷ Int (pos e.word) ∷ Int (pos e.mark) ∷ Int (pos e.tags) ∷ []
 entry_row Second e = Int (pos e.seq) ∷ Null ∷ Int (pos e.mutation) ∷ Int (pos e.test) ∷ Int (pos e.word) ∷ Int (pos e.mark) ∷ Int (pos e.tags) ∷ Int (pos e.bound) ∷ []
 
-abbrev pub shown_entry : JournalTable → Entry → Row
-shown_entry First e = Int (pos e.seq) ∷ Int (pos e.mutation) ∷ Int (pos e.test) ∷ Int (pos e.word) ∷ Int (pos e.mark) ∷ Int (pos e.tags) ∷ []
-shown_entry Second e = Int (pos e.seq) ∷ Int (pos e.mutation) ∷ Int (pos e.test) ∷ Int (pos e.word) ∷ Int (pos e.mark) ∷ Int (pos e.tags) ∷ Int (pos e.bound) ∷ []
-
 -- the table can keep the entry: `journal` keeps one without a bound
 abbrev pub FitsTable : JournalTable → Entry → Type 0
 FitsTable First e = e.bound ≡ 0
@@ -60,6 +51,35 @@ item_row number body = Int (pos number) ∷ Null ∷ Blob body ∷ []
 abbrev pub item_rows : ℕ → List (List ℕ) → List Row
 item_rows number [] = []
 item_rows number (body ∷ more) = item_row number body ∷ item_rows (number + 1) more
+
+-- the numbers rise, from this one on
+abbrev pub RisesFrom : ℕ → List Entry → Type 0
+RisesFrom low [] = ⊤
+RisesFrom low (e ∷ more) = (low ≤ e.seq) × RisesFrom (e.seq + 1) more
+
+-- The table's rows are those of the journal. The journal has them in the order of their numbers.
+pub record HoldsJournal (table : JournalTable) (rows : List Row) (journal : List Entry) : Type 0 where
+  pub rising : RisesFrom 0 journal
+  pub fit : AllByRecursion (FitsTable table) journal
+  pub same : IsPermutation (map (entry_row table) journal) rows
+
+-- the tables' rows are those of the book, and of the two journals only the one of its format has rows
+pub record HoldsBook (schema : Schema) (trees : Trees) (book : Book) : Type 0 where
+  pub meta : IsPermutation (item_rows 0 book.meta) (trees 0)
+  pub mutations : IsPermutation (item_rows 0 book.mutations) (trees 1)
+  pub journal : HoldsJournal (table_of book) (rows_in schema trees (table_of book)) book.journal
+  pub other : rows_in schema trees (other_of (table_of book)) ≡ []
+
+-- For proofs alone.
+
+-- the tree of a table of items
+abbrev pub tree_of : ItemTable → ℕ
+tree_of Meta = 0
+tree_of Mutations = 1
+
+abbrev pub shown_entry : JournalTable → Entry → Row
+shown_entry First e = Int (pos e.seq) ∷ Int (pos e.mutation) ∷ Int (pos e.test) ∷ Int (pos e.word) ∷ Int (pos e.mark) ∷ Int (pos e.tags) ∷ []
+shown_entry Second e = Int (pos e.seq) ∷ Int (pos e.mutation) ∷ Int (pos e.test) ∷ Int (pos e.word) ∷ Int (pos e.mark) ∷ Int (pos e.tags) ∷ Int (pos e.bound) ∷ []
 
 -- the same as they are shown
 abbrev pub shown_item : ℕ → List ℕ → Row
@@ -85,21 +105,3 @@ IsNoItem number row = (body : List ℕ) → row ≢ shown_item number body
 
 abbrev pub IsNoEntry : JournalTable → Row → Type 0
 IsNoEntry table row = (e : Entry) → IsEntry e → FitsTable table e → row ≢ shown_entry table e
-
--- the numbers rise, from this one on
-abbrev pub RisesFrom : ℕ → List Entry → Type 0
-RisesFrom low [] = ⊤
-RisesFrom low (e ∷ more) = (low ≤ e.seq) × RisesFrom (e.seq + 1) more
-
--- The table's rows are those of the journal. The journal has them in the order of their numbers.
-pub record HoldsJournal (table : JournalTable) (rows : List Row) (journal : List Entry) : Type 0 where
-  pub rising : RisesFrom 0 journal
-  pub fit : AllByRecursion (FitsTable table) journal
-  pub same : IsPermutation (map (entry_row table) journal) rows
-
--- the tables' rows are those of the book, and of the two journals only the one of its format has rows
-pub record HoldsBook (schema : Schema) (trees : Trees) (book : Book) : Type 0 where
-  pub meta : IsPermutation (item_rows 0 book.meta) (trees 0)
-  pub mutations : IsPermutation (item_rows 0 book.mutations) (trees 1)
-  pub journal : HoldsJournal (table_of book) (rows_in schema trees (table_of book)) book.journal
-  pub other : rows_in schema trees (other_of (table_of book)) ≡ []

@@ -107,6 +107,12 @@ pub record IsBookSchema (schema : Schema) : Type 0 where
   pub of : BookTables
   pub is : schema ≡ book_schema of
 
+-- no table at all
+abbrev pub no_schema : Schema
+no_schema = record { tables = []; indexes = []; views = [] }
+
+-- For proofs alone.
+
 -- the tree of the fourth table
 abbrev pub tree_of_fourth : List Table → ℕ
 tree_of_fourth (a ∷ b ∷ c ∷ d ∷ more) = d.tree
@@ -114,10 +120,6 @@ tree_of_fourth _ = 0
 
 abbrev pub second_tree : Schema → ℕ
 second_tree schema = tree_of_fourth schema.tables
-
--- no table at all
-abbrev pub no_schema : Schema
-no_schema = record { tables = []; indexes = []; views = [] }
 
 -- the constraints of a table
 abbrev pub constraints : Table → Constraints

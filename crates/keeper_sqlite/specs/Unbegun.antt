@@ -10,6 +10,8 @@ use Rattle.keeper_sqlite.specs.Rows.{item_rows, shown_item, tree_of}
 use Rattle.keeper_sqlite.specs.Writing.{Wrote, BeginsRows}
 use Rattle.keeper_sqlite.specs.Refusals.{FailsBy, IsRefusedInside, IsNotCommitted, IsNotProbed}
 
+-- For proofs alone.
+
 -- the statement that writes an item of the table
 abbrev pub insert_of : ItemTable → List ℕ
 insert_of Meta = INSERT_META.now

@@ -19,6 +19,8 @@ use Rattle.keeper_sqlite.specs.Tables.{IsBookSchema, IsFirstSchema, no_schema}
 use Rattle.keeper_sqlite.specs.Stands.{StandsFor}
 use Rattle.keeper_sqlite.specs.Rows.{entry_row, item_rows, other_of, rows_in, table_of, FitsTable, RisesFrom, HoldsJournal, HoldsBook}
 
+-- For proofs alone.
+
 -- a list of things under numbers that rise
 abbrev Rises : {X : Type 0} → (X → ℕ) → ℕ → List X → Type 0
 Rises key low [] = Unit {0}

@@ -21,6 +21,8 @@ use Rattle.keeper_sqlite.specs.Making.{HasCreated, IsReady}
 use Rattle.keeper_sqlite.specs.Rows.{item_rows, other_of, shown_entry, shown_items, table_of, IsNoEntry, IsNoItem, RisesFrom}
 use Rattle.keeper_sqlite.specs.Refusals.{FailsBy, IsRefusedInsideWith, refusal_of}
 
+-- For proofs alone.
+
 -- ---- the tables
 
 -- the text makes the table that comes after these

@@ -17,6 +17,8 @@ use Rattle.keeper_sqlite.specs.Rows.{entry_row, item_rows, rows_in, shown_entry,
 use Rattle.keeper_sqlite.specs.Writing.{IsOfBook, Wrote}
 use Rattle.keeper_sqlite.specs.Refusals.{FailsBy, IsNotCommitted, IsNotProbed, IsRefusedInside, refusal_of}
 
+-- For proofs alone.
+
 -- ---- the rows
 
 -- These rows stand in `journal2`, those of `journal`, where they are entries, are gone, and item 0 of meta is the number of the second

@@ -9,6 +9,8 @@ use Rattle.keeper_sqlite.specs.declared.read.JournalTable.{JournalTable}
 use Rattle.keeper_sqlite.specs.Tables.{IsBookSchema, second_tree}
 use Rattle.keeper_sqlite.specs.Rows.{item_rows, rows_in}
 
+-- For proofs alone.
+
 -- the tree is that of a table of the book
 abbrev pub IsOfBook : Schema → ℕ → Type 0
 IsOfBook schema t = (t < 3) ⊎ (t ≡ second_tree schema)

@@ -6,6 +6,7 @@
 ghost use Rattle.std.specs.Prelude.{◌≡◌, [], ◌∷◌, IsTrue, IfErr, OnOk, OnErr};
 ghost use Rattle.sqlite.specs.Held.{state};
 ghost use Rattle.sqlite.specs.State.{HasCleanDisk, Survives};
+ghost use Rattle.sqlite.specs.Values.{bound};
 ghost use Rattle.keeper_sqlite.specs.Tables.{IsBookSchema, second_tree};
 ghost use Rattle.keeper_sqlite.specs.Rows.{entry_row, item_row, shown_entry, shown_item, tree_of};
 ghost use Rattle.keeper_sqlite.specs.Changes.{HasAdded, IsAdded, IsKeptIfOpen};
@@ -16,6 +17,7 @@ ghost use Rattle.keeper_sqlite.specs.Writing.{WritesInside};
 use crate::read::{ItemTable, JournalTable};
 use crate::statements::{INSERT_BOUNDED, INSERT_ENTRY, INSERT_META, INSERT_MUTATION};
 use mcy_keeper::Entry;
+use sqlite::types::{ToSql, ValueRef};
 use sqlite::{Alter, Connection, Error, Transaction, params};
 
 /// Writes an item of `meta`.
@@ -61,6 +63,35 @@ pub(crate) fn insert_item<S: Alter>(
     }
 }
 
+/// The values of an entry in the columns of `journal`.
+fn first_values(entry: &Entry) -> [ValueRef<'_>; 6]
+    ensures { bound result ≡ shown_entry JournalTable.First entry.now }
+{
+    [
+        entry.seq.to_sql(),
+        entry.mutation.to_sql(),
+        entry.test.to_sql(),
+        entry.word.to_sql(),
+        entry.mark.to_sql(),
+        entry.tags.to_sql(),
+    ]
+}
+
+/// Its values in those of `journal2`.
+fn second_values(entry: &Entry) -> [ValueRef<'_>; 7]
+    ensures { bound result ≡ shown_entry JournalTable.Second entry.now }
+{
+    [
+        entry.seq.to_sql(),
+        entry.mutation.to_sql(),
+        entry.test.to_sql(),
+        entry.word.to_sql(),
+        entry.mark.to_sql(),
+        entry.tags.to_sql(),
+        entry.bound.to_sql(),
+    ]
+}
+
 /// Writes a row of `journal`.
 fn insert_first<S: Alter>(connection: &mut Connection<S>, entry: &Entry) -> Result<usize, Error>
     ensures added { HasCleanDisk (state S.Store connection.new) → IsBookSchema (state S.Store connection.old).now.schema → OnOk result (HasAdded JournalTable.First (state S.Store connection.old) (state S.Store connection.new) entry.now) }
@@ -68,17 +99,7 @@ fn insert_first<S: Alter>(connection: &mut Connection<S>, entry: &Entry) -> Resu
     ensures told { HasCleanDisk (state S.Store connection.new) → IfErr result (IsRefusedWith INSERT_ENTRY.now (shown_entry JournalTable.First entry.now) (state S.Store connection.old) (state S.Store connection.new)) }
     ensures crash { Survives (state S.Store connection.old) (state S.Store connection.new) (λ trees. IsBookSchema (state S.Store connection.old).now.schema → IsAdded JournalTable.First (state S.Store connection.old).now entry.now trees) }
 {
-    connection.execute(
-        INSERT_ENTRY,
-        params![
-            entry.seq,
-            entry.mutation,
-            entry.test,
-            entry.word,
-            entry.mark,
-            entry.tags
-        ],
-    )
+    connection.execute(INSERT_ENTRY, &first_values(entry))
 }
 
 /// Writes a row of `journal2`.
@@ -88,18 +109,7 @@ fn insert_second<S: Alter>(connection: &mut Connection<S>, entry: &Entry) -> Res
     ensures told { HasCleanDisk (state S.Store connection.new) → IfErr result (IsRefusedWith INSERT_BOUNDED.now (shown_entry JournalTable.Second entry.now) (state S.Store connection.old) (state S.Store connection.new)) }
     ensures crash { Survives (state S.Store connection.old) (state S.Store connection.new) (λ trees. IsBookSchema (state S.Store connection.old).now.schema → IsAdded JournalTable.Second (state S.Store connection.old).now entry.now trees) }
 {
-    connection.execute(
-        INSERT_BOUNDED,
-        params![
-            entry.seq,
-            entry.mutation,
-            entry.test,
-            entry.word,
-            entry.mark,
-            entry.tags,
-            entry.bound
-        ],
-    )
+    connection.execute(INSERT_BOUNDED, &second_values(entry))
 }
 
 /// Writes a row of a journal.
@@ -128,16 +138,5 @@ pub(crate) fn insert_bounded<S: Alter>(
     ensures writes { WritesInside (second_tree (state S.Store transaction.old.conn.now).now.schema) (entry_row JournalTable.Second entry.now ∷ []) (state S.Store transaction.old.conn.now) (state S.Store transaction.new.conn.now) result }
     ensures told { HasCleanDisk (state S.Store transaction.new.conn.now) → IsTrue (state S.Store transaction.old.conn.now).in_transaction → IfErr result (IsRefusedInsideWith INSERT_BOUNDED.now (shown_entry JournalTable.Second entry.now) (state S.Store transaction.old.conn.now) (state S.Store transaction.new.conn.now)) }
 {
-    transaction.execute(
-        INSERT_BOUNDED,
-        params![
-            entry.seq,
-            entry.mutation,
-            entry.test,
-            entry.word,
-            entry.mark,
-            entry.tags,
-            entry.bound
-        ],
-    )
+    transaction.execute(INSERT_BOUNDED, &second_values(entry))
 }

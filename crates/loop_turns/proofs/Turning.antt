@@ -1,30 +1,18 @@
 -- One turn of a loop, what comes after it, and the turns that are left.
-use Rattle.std.proofs.Common.{◌≡◌, zero, suc, ℕ, ◌<◌, ◌≤◌, ◌+◌, ◌-◌, ◌%◌, ◌^◌, Bool, true, false, not, nat_eq, nat_le, nat_lt, List, [], ◌∷◌, refl, sym, ap, ◌∙◌, subst, arith}
-use Rattle.std.specs.Prelude.{Option, None, Some, if◌then◌else◌}
-use Rattle.std.specs.Option.{option_map}
+use Rattle.loop_turns.proofs.Common.{◌≡◌, zero, suc, ℕ, ◌<◌, ◌≤◌, ◌+◌, ◌-◌, ◌%◌, ◌^◌, Bool, true, false, not, nat_eq, nat_le, nat_lt, List, [], ◌∷◌, refl, sym, ap, ◌∙◌, subst, arith, Option, None}
+use Rattle.loop_turns.proofs.Common.{Some, if◌then◌else◌, option_map, Word, Identifier, out-LeftSide, ConstError, Constant, least, const_error, Names, nothing, with_name, sense, assigned}
+use Rattle.loop_turns.proofs.Common.{step_refusals, next_steps, next_value, Stops, faults_at, constant_fails, constant_stands, names_by_word, Passes, Ends, GoesOn, Answers, Counted, next_count}
+use Rattle.loop_turns.proofs.Common.{taken_count, tested, turn_count, turns}
 use Rattle.std.specs.Str.{bytes_eq}
 use Rattle.std.proofs.Math.Nat.{mod-mod}
 use Rattle.std.proofs.lemmas.Bool.Decides.{nat_tests}
-use Rattle.mcy_base.specs.declared.word.Word.{Word}
-use Rattle.vlog_syntax.specs.declared.identifier.Identifier.{Identifier}
-use Rattle.vlog_syntax.specs.declared.left_side.LeftSide.{out-LeftSide}
-use Rattle.vlog_meaning.specs.declared.fault.ConstError.{ConstError}
-use Rattle.vlog_meaning.specs.declared.scope.Decl.TheVariants.{Constant}
-use Rattle.vlog_meaning.specs.Answers.{least, const_error}
-use Rattle.vlog_meaning.specs.Scopes.{Names, nothing, with_name}
-use Rattle.vlog_meaning.specs.Senses.{sense, assigned}
 use Rattle.vlog_effects.specs.Expressions.{where_faultless, constant_of, constant_faults}
 use Rattle.vlog_effects.specs.Steps.{Steps, Done, Loop, flaws_of, max_turns, name_alone, name_flaw, step_flaws, stepped, tested_word, turn_names, with_word}
 use Rattle.elab_proc.specs.declared.refusal.Refusal.{Refusal}
 use Rattle.elab_proc.specs.Order.{IsFirst}
-use Rattle.elab_proc.specs.Refusals.{step_refusals}
 use Rattle.elab_proc.specs.Turns as following
-use Rattle.elab_proc.specs.Turns.{next_steps, next_value, Stops}
-use Rattle.elab_proc.proofs.TurnLemmas.{faults_at, constant_fails, constant_stands, names_by_word}
 use Rattle.loop_turns.specs.declared.walk.Turn.{Turn}
-use Rattle.loop_turns.specs.declared.walk.Turn.TheVariants.{Passes, Ends, GoesOn}
 use Rattle.loop_turns.specs.Counts as c
-use Rattle.loop_turns.specs.Counts.{Answers, Counted, next_count, taken_count, tested, turn_count, turns}
 
 -- What comes after the body of a turn.
 

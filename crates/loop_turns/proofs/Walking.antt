@@ -1,16 +1,12 @@
 -- The turns of each kind of statement, and of lists of statements one after the other.
-use Rattle.std.proofs.Common.{◌≡◌, zero, suc, ℕ, ◌+◌, ◌<◌, ◌≤◌, ◌%◌, ◌^◌, Bool, List, [], ◌∷◌, map, refl, sym, ap, ◌∙◌, subst, arith, length, get_or, drop}
-use Rattle.std.specs.Prelude.{Option, None, Some}
-use Rattle.std.specs.Option.{option_map}
+use Rattle.loop_turns.proofs.Common.{◌≡◌, zero, suc, ℕ, ◌+◌, ◌<◌, ◌≤◌, ◌%◌, ◌^◌, Bool, List, [], ◌∷◌, map, refl, sym, ap, ◌∙◌, subst, arith, length, get_or, drop, Option, None, Some, option_map, Word}
+use Rattle.loop_turns.proofs.Common.{Identifier, LeftSide, out-LeftSide, CaseItem, out-CaseItem, ConstError, Decl, Signal, Constant, least, const_error, Names, nothing, sense, assigned, faults_at}
+use Rattle.loop_turns.proofs.Common.{constant_fails, constant_stands, Counted, IsLeft, all_turns, count_item, count_step, else_turns, item_turns, loop_turns, looped, summed, turns, turns_of}
 use Rattle.mcy_base.specs.declared.span.Span.{Span}
-use Rattle.mcy_base.specs.declared.word.Word.{Word}
-use Rattle.vlog_syntax.specs.declared.identifier.Identifier.{Identifier}
 use Rattle.vlog_syntax.specs.declared.expr.Expr.{Expr}
-use Rattle.vlog_syntax.specs.declared.left_side.LeftSide.{LeftSide, out-LeftSide}
 use Rattle.vlog_syntax.specs.declared.left_side.LeftSide.TheVariants as lv
 use Rattle.vlog_syntax.specs.declared.stmt.Argument.{Argument}
 use Rattle.vlog_syntax.specs.declared.stmt.Assignment.{Assignment}
-use Rattle.vlog_syntax.specs.declared.stmt.CaseItem.{CaseItem, out-CaseItem}
 use Rattle.vlog_syntax.specs.declared.stmt.CaseKind.{CaseKind}
 use Rattle.vlog_syntax.specs.declared.stmt.EventControl.{EventControl}
 use Rattle.vlog_syntax.specs.declared.stmt.Stmt.{Stmt, roll-Stmt}
@@ -18,17 +14,9 @@ use Rattle.vlog_syntax.specs.declared.stmt.Stmt.TheVariants as s
 use Rattle.vlog_syntax.specs.declared.stmt.Stmt.TheOpen as t
 use Rattle.vlog_syntax.specs.declared.stmt.Stmt.TheOpen.{Stmt-F}
 use Rattle.vlog_syntax.specs.declared.stmt.Stmt.TheFolds.{fold-roll-Stmt, fold_out-CaseItem, map-Stmt}
-use Rattle.vlog_meaning.specs.declared.fault.ConstError.{ConstError}
-use Rattle.vlog_meaning.specs.declared.scope.Decl.{Decl}
-use Rattle.vlog_meaning.specs.declared.scope.Decl.TheVariants.{Signal, Constant}
-use Rattle.vlog_meaning.specs.Answers.{least, const_error}
-use Rattle.vlog_meaning.specs.Scopes.{Names, nothing}
-use Rattle.vlog_meaning.specs.Senses.{sense, assigned}
 use Rattle.vlog_effects.specs.Expressions.{constant_of}
 use Rattle.vlog_effects.specs.Steps.{Loop, max_turns, name_alone}
 use Rattle.vlog_effects.proofs.Folds.{out-name}
-use Rattle.elab_proc.proofs.TurnLemmas.{faults_at, constant_fails, constant_stands}
-use Rattle.loop_turns.specs.Counts.{Counted, IsLeft, all_turns, count_item, count_step, else_turns, item_turns, loop_turns, looped, summed, turns, turns_of}
 use Rattle.loop_turns.proofs.Turning.{turns_by_bits}
 
 -- What is left.

@@ -91,9 +91,6 @@ count_item i = i.body
 abbrev pub turns_of : Stmt → Counted
 turns_of = fold-Stmt Counted Counted count_step count_item
 
-abbrev pub item_turns : CaseItem → Counted
-item_turns = fold-CaseItem Counted Counted count_step count_item
-
 -- A process that waits for events does its statement at each of them.
 
 abbrev pub waiting_turns : Names → Stmt-F Stmt CaseItem → ℕ
@@ -109,12 +106,15 @@ turns_by names other body = 0
 abbrev pub process_turns : Names → Process → ℕ
 process_turns names p = turns_by names (sensitivity p) p.body
 
--- The code's parts.
-
 -- what is left of so many turns after others, or that these are more
 abbrev pub IsLeft : (count left : ℕ) → Option ℕ → Type 0
 IsLeft count left None = left < count
 IsLeft count left (Some rest) = rest + count ≡ left
+
+-- For proofs alone.
+
+abbrev pub item_turns : CaseItem → Counted
+item_turns = fold-CaseItem Counted Counted count_step count_item
 
 -- the answer for a turn, where so many turns come with those after it
 abbrev pub Answers : (count : (ℕ → ℕ) → ℕ) → Loop → Names → (left : ℕ) → Turn → Type 0

@@ -1,12 +1,8 @@
 -- A lemma that goes on a legal log is refused for want of memory alone.
-use Rattle.std.proofs.Common.{◌≡◌, ℕ, zero, suc, ◌+◌, ◌<◌, ◌≤◌, Bool, true, false, ◌||◌, List, [], ◌∷◌, ◌++◌, length, take, get_or, ℤ, Option, Some, None, refl, ap, sym, ◌∙◌, inl, inr, ◌⊎◌, subst, slice_get, length-append, arith}
-use Rattle.std.proofs.lemmas.Option.{slice_get-get_or, slice_get_within}
-use Rattle.clause_store.specs.Clauses.{variable}
-use Rattle.lrat_checker.specs.declared.refusal.CheckError.{CheckError}
+use Rattle.lrat_checker.proofs.Common.{◌≡◌, ℕ, zero, suc, ◌+◌, ◌<◌, Bool, true, false, ◌||◌, List, [], ◌∷◌, ◌++◌, length, take, get_or, ℤ, Some, None, refl, ap, sym, ◌∙◌, inl, inr, ◌⊎◌, subst}
+use Rattle.lrat_checker.proofs.Common.{slice_get, arith, slice_get-get_or, slice_get_within, variable, CheckError, Known, none, with_true, with_false, IsUnit, IsFalsified, clause_at, Propagates}
+use Rattle.lrat_checker.proofs.Common.{EndsInConflict, is_named, AreFree, IsWithin, GoesOnBy, Log, IsRefused, Reaches}
 use Rattle.lrat_checker.specs.declared.refusal.CheckError.TheVariants.{BadLiteral, Contained, BadHint, NotUnit, NoConflict, Memory}
-use Rattle.clause_store.specs.Propagation.{Known, none, with_true, with_false, IsUnit, IsFalsified, clause_at, Propagates, EndsInConflict}
-use Rattle.lrat_checker.specs.LegalLogs.{is_named, AreFree, IsWithin, GoesOnBy, Log}
-use Rattle.lrat_checker.specs.Refusals.{IsRefused, Reaches}
 
 named-take : (xs : List ℤ) (n v : ℕ) → is_named xs v ≡ false → is_named (take n xs) v ≡ false
 named-take xs zero v h = refl

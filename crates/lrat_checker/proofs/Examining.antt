@@ -1,9 +1,6 @@
 -- The literals of a clause that aren't false.
-use Rattle.std.proofs.Common.{◌≡◌, ℕ, ◌+◌, ◌<◌, Bool, true, false, not, List, [], ◌∷◌, length, take, drop, get_or, ℤ, pos, Option, Some, None, is_some, refl, sym, ◌∙◌}
-use Rattle.std.specs.Option.{option_to_list}
-use Rattle.std.proofs.lemmas.List.{take-append-drop}
-use Rattle.std.proofs.lemmas.List.Elements.{filter-append, filter_more}
-use Rattle.clause_store.specs.Propagation.{Known, literal, is_some_false, left, IsUnit, IsFalsified}
+use Rattle.lrat_checker.proofs.Common.{◌≡◌, ℕ, ◌+◌, ◌<◌, Bool, true, false, not, List, [], ◌∷◌, length, take, drop, get_or, ℤ, pos, Option, Some, None, is_some, refl, sym, ◌∙◌, option_to_list}
+use Rattle.lrat_checker.proofs.Common.{take-append-drop, filter-append, filter_more, Known, literal, is_some_false, left, IsUnit, IsFalsified}
 
 -- two places aren't false, so the clause is neither falsified nor unit
 pub two_left : (known : Known) (clause : List ℤ) (i : ℕ) (first : Option ℤ) (l : ℤ) → l ≡ get_or clause i (pos 0) → i < length clause → option_to_list first ≡ left known (take i clause) → is_some first ≡ true → is_some_false (literal known l) ≡ false → (IsFalsified known clause → ⊥) × ((m : ℤ) → IsUnit known clause m → ⊥)

@@ -1,11 +1,6 @@
 -- The search for a clause whose literals are all false.
-use Rattle.std.proofs.Common.{◌≡◌, ℕ, ◌+◌, ◌-◌, ◌<◌, ◌≤◌, true, List, [], length, take, drop, get_or, ℤ, pos, Some, ap, sym, ◌∙◌, subst, slice_get, arith}
-use Rattle.std.specs.Prelude.{All}
-use Rattle.std.proofs.lemmas.List.{length-drop, get_or-drop}
-use Rattle.std.proofs.lemmas.List.Elements.{All-more}
-use Rattle.std.proofs.lemmas.Option.{slice_get-get_or, slice_get_within}
-use Rattle.clause_store.specs.Propagation.{Known, literal, is_some_false}
-use Rattle.lrat_checker.specs.Steps.{IsFalse, IsFirstFalsified}
+use Rattle.lrat_checker.proofs.Common.{◌≡◌, ℕ, ◌+◌, ◌-◌, ◌<◌, ◌≤◌, true, List, [], length, take, drop, get_or, ℤ, pos, Some, ap, sym, ◌∙◌, subst, slice_get, arith, All, length-drop, get_or-drop}
+use Rattle.lrat_checker.proofs.Common.{All-more, slice_get-get_or, slice_get_within, Known, literal, is_some_false, IsFalse, IsFirstFalsified}
 
 -- one more literal is false
 pub false-more : (known : Known) (clause : List ℤ) (i : ℕ) (l : ℤ) → l ≡ get_or clause i (pos 0) → i < length clause → All (IsFalse known) (take i clause) → is_some_false (literal known l) ≡ true → All (IsFalse known) (take (i + 1) clause)

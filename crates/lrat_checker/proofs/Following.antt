@@ -1,12 +1,7 @@
 -- The steps of propagation by hints.
-use Rattle.std.proofs.Common.{◌≡◌, ◌≢◌, ℕ, zero, suc, ◌+◌, ◌-◌, ◌<◌, ◌≤◌, Bool, true, false, not, List, [], ◌∷◌, ◌++◌, length, take, get_or, ℤ, cond, Option, Some, None, refl, ap, sym, ◌∙◌, inl, inr, ◌⊎◌, subst, slice_get, arith}
-use Rattle.std.specs.Prelude.{All}
-use Rattle.std.proofs.lemmas.List.{take_more, take_all}
-use Rattle.std.proofs.lemmas.List.Elements.{All-head, All-tail}
-use Rattle.std.proofs.lemmas.Option.{slice_get_past, slice_get-get_or, slice_get_within}
-use Rattle.clause_store.specs.Clauses.{variable, AreOver}
-use Rattle.clause_store.specs.Propagation.{Known, literal, is_some_false, left, with_true, IsUnit, IsFalsified, clause_at, Propagates, EndsInConflict}
-use Rattle.lrat_checker.specs.Refusals.{Reaches}
+use Rattle.lrat_checker.proofs.Common.{◌≡◌, ◌≢◌, ℕ, zero, suc, ◌+◌, ◌-◌, ◌<◌, ◌≤◌, Bool, true, false, not, List, [], ◌∷◌, ◌++◌, length, take, get_or, ℤ, cond, Option, Some, refl, ap, sym, ◌∙◌, subst}
+use Rattle.lrat_checker.proofs.Common.{slice_get, arith, All, take_more, All-head, All-tail, slice_get-get_or, slice_get_within, variable, AreOver, Known, literal, is_some_false, left, with_true}
+use Rattle.lrat_checker.proofs.Common.{IsUnit, clause_at, Propagates, Reaches}
 
 -- what holds of each literal holds of those that are left
 pub left_all : (P : ℤ → Type 0) (known : Known) (clause : List ℤ) (l : ℤ) (more : List ℤ) → All P clause → left known clause ≡ l ∷ more → P l
@@ -33,11 +28,6 @@ pub clause_at-place : (clauses : List (List ℤ)) (hint : ℕ) (found : Option (
 clause_at-place clauses zero found h e = absurd (h refl)
 clause_at-place clauses (suc k) found h e = let is : suc k - 1 ≡ k = omega arith in rw is at e
 
-pub clause_at-none : (clauses : List (List ℤ)) (hint : ℕ) → (hint ≡ 0) ⊎ (length clauses < hint) → clause_at clauses hint ≡ None
-clause_at-none clauses zero h = refl
-clause_at-none clauses (suc k) (inl h) = absurd (omega (arith, h))
-clause_at-none clauses (suc k) (inr h) = slice_get_past clauses k (omega (arith, h))
-
 -- one more hint that is unit
 pub propagates-push : (clauses : List (List ℤ)) (start : Known) (hints : List ℕ) (known : Known) (hint : ℕ) (clause : List ℤ) (l : ℤ) → Propagates clauses start hints known → clause_at clauses hint ≡ Some clause → IsUnit known clause l → Propagates clauses start (hints ++ hint ∷ []) (with_true known l)
 propagates-push clauses start [] known hint clause l same at unit =
@@ -48,19 +38,6 @@ propagates-push clauses start (h ∷ hints) known hint clause l steps at unit =
 
 pub propagates-more : (clauses : List (List ℤ)) (start : Known) (hints : List ℕ) (i : ℕ) (known : Known) (clause : List ℤ) (l : ℤ) → i < length hints → Propagates clauses start (take i hints) known → clause_at clauses (get_or hints i 0) ≡ Some clause → IsUnit known clause l → Propagates clauses start (take (i + 1) hints) (with_true known l)
 propagates-more clauses start hints i known clause l h steps at unit = rw (take_more hints i 0 h) (propagates-push clauses start (take i hints) known (get_or hints i 0) clause l steps at unit)
-
--- the last hint is false
-pub ends-here : (clauses : List (List ℤ)) (start : Known) (hints : List ℕ) (i : ℕ) (known : Known) (clause : List ℤ) → i + 1 ≡ length hints → Propagates clauses start (take i hints) known → clause_at clauses (get_or hints i 0) ≡ Some clause → IsFalsified known clause → EndsInConflict clauses start hints
-ends-here clauses start hints i known clause h steps at falsified = record {
-  before = take i hints;
-  last = get_or hints i 0;
-  hinted = sym (take_all (i + 1) hints (omega (arith, h))) ∙ take_more hints i 0 (omega (arith, h));
-  known = known;
-  propagates = steps;
-  clause = clause;
-  there = at;
-  falsified = falsified;
-}
 
 pub reaches : (clauses : List (List ℤ)) (start : Known) (hints : List ℕ) (i : ℕ) (known : Known) → i < length hints → Propagates clauses start (take i hints) known → Reaches clauses start hints i (get_or hints i 0) known
 reaches clauses start hints i known h steps = record { there = slice_get-get_or hints i 0 h; propagates = steps }

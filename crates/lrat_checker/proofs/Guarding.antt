@@ -1,14 +1,9 @@
 -- Lemmas that stand in the list of one of their literals.
-use Rattle.std.proofs.Common.{◌≡◌, ℕ, ◌+◌, ◌-◌, ◌<◌, true, List, [], ◌∷◌, ◌++◌, map, length, take, drop, get_or, set, ℤ, Some, slice_get, refl, ap, sym, ◌∙◌, subst, inl, inr, arith, Result, Ok, Err}
-use Rattle.std.specs.Prelude.{All, Contains, OnErr}
-use Rattle.std.proofs.lemmas.Bool.Decides.{eqb_tells}
-use Rattle.std.proofs.lemmas.List.{map-set, get_or-map, get_or_append_left, get_or_push, get_or-set_same, get_or-set_other, length-set, length_push, take-append-le, take_all, take_more}
-use Rattle.std.proofs.lemmas.Option.{slice_get-get_or, slice_get_within}
-use Rattle.std.proofs.lemmas.List.Elements.{All-contains, All-from_get_or, Contains-push, Contains-push_cases, Contains-append_left}
-use Rattle.clause_store.specs.Propagation.{Known, none, with_false}
-use Rattle.lrat_checker.specs.Steps.{IsFalse}
+use Rattle.lrat_checker.proofs.Common.{◌≡◌, ℕ, ◌+◌, ◌-◌, ◌<◌, true, List, [], ◌∷◌, ◌++◌, map, length, take, drop, get_or, set, ℤ, Some, slice_get, refl, ap, sym, ◌∙◌, subst, inl, inr, arith, Result}
+use Rattle.lrat_checker.proofs.Common.{Ok, Err, All, Contains, OnErr, eqb_tells, map-set, get_or-map, get_or_append_left, get_or_push, get_or-set_same, get_or-set_other, length-set, length_push}
+use Rattle.lrat_checker.proofs.Common.{take-append-le, take_all, take_more, slice_get-get_or, slice_get_within, All-contains, All-from_get_or, Contains-push, Contains-push_cases, Contains-append_left}
+use Rattle.lrat_checker.proofs.Common.{Known, none, with_false, IsFalse, place_of, list_at, lists_of, IsGuarded, AreGuarded, moved}
 use Rattle.lrat_checker.specs.declared.guards.Guards.{Guards}
-use Rattle.lrat_checker.specs.Guards.{place_of, list_at, lists_of, IsGuarded, AreGuarded, moved}
 use Rattle.lrat_checker.proofs.Finding.{dropped-at}
 use Rattle.lrat_checker.proofs.Within.{within-from_false}
 

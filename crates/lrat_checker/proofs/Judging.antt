@@ -1,14 +1,7 @@
 -- The judging of a lemma, from the judgements of its parts.
-use Rattle.std.proofs.Common.{◌≡◌, ℕ, ◌≤◌, List, ◌++◌, length, take, drop, ℤ, sym, subst, arith, Result, Ok, Err}
-use Rattle.std.specs.Prelude.{All, IfErr, OnOk}
-use Rattle.std.proofs.lemmas.List.{take-append-drop, length-take-le}
-use Rattle.std.proofs.lemmas.List.Elements.{All-weaker}
-use Rattle.lrat_checker.specs.declared.refusal.CheckError.{CheckError}
+use Rattle.lrat_checker.proofs.Common.{◌≡◌, ℕ, ◌≤◌, List, ◌++◌, length, take, drop, ℤ, sym, subst, arith, Result, Ok, Err, All, IfErr, OnOk, take-append-drop, length-take-le, All-weaker, CheckError}
+use Rattle.lrat_checker.proofs.Common.{Known, none, with_false, EndsInConflict, AreFree, IsWithin, IsNew, GoesOnBy, Log, IsContained, IsRefused, IsFit, IsFalse, IsFirstFalsified, IsFollowing}
 use Rattle.lrat_checker.specs.declared.refusal.CheckError.TheVariants.{BadLiteral, Contained, BadHint, NotUnit, NoConflict, Memory}
-use Rattle.clause_store.specs.Propagation.{Known, none, with_false, EndsInConflict}
-use Rattle.lrat_checker.specs.LegalLogs.{AreFree, IsWithin, IsNew, GoesOnBy, Log}
-use Rattle.lrat_checker.specs.Refusals.{IsContained, IsRefused, IsFit}
-use Rattle.lrat_checker.specs.Steps.{IsFalse, IsFirstFalsified, IsFollowing, IsPlacing}
 use Rattle.lrat_checker.proofs.Within.{within-from_false, false-from_within}
 
 pub new-from_unfalsified : (free : ℕ) (lemmas : List (List ℤ)) (lemma : List ℤ) (known : Known) → AreFree free lemma → known ≡ with_false none lemma → All (λ earlier. All (IsFalse known) earlier → ⊥) lemmas → IsNew lemmas lemma
@@ -40,15 +33,6 @@ goes-on free clauses store lemma hints known are new is ends = record {
   new = new;
   follows = let P : Known → Type 0 = λ k. EndsInConflict store k hints in rw take-append-drop (subst P is ends);
 }
-
--- why the placing was refused is why the lemma is
-pub refused-placing : (log : Log) (lemma : List ℤ) (hints : List ℕ) (e : CheckError) → IsPlacing log.free lemma e → IsRefused log lemma hints e
-refused-placing log lemma hints (BadLiteral i) h = h
-refused-placing log lemma hints (Contained n) h = absurd h
-refused-placing log lemma hints (BadHint i) h = absurd h
-refused-placing log lemma hints (NotUnit i) h = absurd h
-refused-placing log lemma hints NoConflict h = absurd h
-refused-placing log lemma hints Memory h = tt
 
 -- why the hints were refused is why the lemma is
 pub refused-following : (log : Log) (lemma : List ℤ) (hints : List ℕ) (e : CheckError) → IsFit log lemma → IsFollowing (log.clauses ++ log.lemmas) (with_false none lemma) hints e → IsRefused log lemma hints e

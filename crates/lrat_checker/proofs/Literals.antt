@@ -1,10 +1,7 @@
 -- Partial assignments that make literals false, and lists of free literals.
-use Rattle.std.proofs.Common.{◌≡◌, ℕ, ◌<◌, ◌≤◌, Bool, true, false, not, ◌||◌, List, [], ◌∷◌, ◌++◌, ℤ, is_some, refl, sym, ◌∙◌, inl, inr, nat_eq}
-use Rattle.std.proofs.lemmas.Bool.Decides.{eqb_tells}
+use Rattle.lrat_checker.proofs.Common.{◌≡◌, ℕ, ◌<◌, ◌≤◌, Bool, true, false, not, ◌||◌, List, [], ◌∷◌, ◌++◌, ℤ, is_some, refl, sym, ◌∙◌, inl, inr, nat_eq, eqb_tells, variable, Known, with_value}
+use Rattle.lrat_checker.proofs.Common.{with_false, is_positive, is_named, AreFree}
 use Rattle.std.proofs.lemmas.List.Folds.{list_any-append}
-use Rattle.clause_store.specs.Clauses.{variable}
-use Rattle.clause_store.specs.Propagation.{Known, with_value, with_false, is_positive}
-use Rattle.lrat_checker.specs.LegalLogs.{is_named, AreFree}
 
 pub with_false-append : (known : Known) (xs ys : List ℤ) → with_false known (xs ++ ys) ≡ with_false (with_false known xs) ys
 with_false-append known [] ys = refl

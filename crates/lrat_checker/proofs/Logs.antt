@@ -1,11 +1,7 @@
 -- Logs that grow.
-use Rattle.std.proofs.Common.{◌≡◌, ℕ, ◌+◌, ◌<◌, ◌≤◌, ◌-◌, List, [], ◌∷◌, ◌++◌, length, take, drop, get_or, ℤ, Some, slice_get, refl, sym, ◌∙◌, arith}
-use Rattle.std.specs.Prelude.{All}
-use Rattle.std.proofs.lemmas.List.{append-nil, append_assoc, take-append-le, drop-append-le, length-drop, get_or-drop, take_all, take_more}
-use Rattle.std.proofs.lemmas.Option.{slice_get-get_or}
-use Rattle.std.proofs.lemmas.List.Elements.{All-nil, All-cons, All-push}
-use Rattle.clause_store.specs.Clauses.{variable, AreOver}
-use Rattle.lrat_checker.specs.LegalLogs.{AreFree, GoesOnBy, IsLegalAfter, IsLegalLog}
+use Rattle.lrat_checker.proofs.Common.{◌≡◌, ℕ, ◌+◌, ◌<◌, ◌≤◌, ◌-◌, List, [], ◌∷◌, ◌++◌, length, take, drop, get_or, ℤ, Some, slice_get, refl, sym, ◌∙◌, arith, All, append-nil, append_assoc}
+use Rattle.lrat_checker.proofs.Common.{take-append-le, drop-append-le, length-drop, get_or-drop, take_all, take_more, slice_get-get_or, All-nil, All-cons, All-push, variable, AreOver, AreFree}
+use Rattle.lrat_checker.proofs.Common.{GoesOnBy, IsLegalAfter, IsLegalLog}
 
 -- a legal log with one more lemma
 pub legal-push : (clauses : List (List ℤ)) (free : ℕ) (earlier lemmas : List (List ℤ)) (lemma : List ℤ) (hints : List ℕ) → IsLegalAfter clauses free earlier lemmas → GoesOnBy clauses free (earlier ++ lemmas) lemma hints → IsLegalAfter clauses free earlier (lemmas ++ lemma ∷ [])

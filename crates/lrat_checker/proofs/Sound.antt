@@ -1,12 +1,9 @@
 -- Lemmas are true in every model of the clauses.
-use Rattle.std.proofs.Common.{◌≡◌, ◌≢◌, ℕ, suc, ◌+◌, ◌<◌, Bool, true, false, not, cond, ◌||◌, List, [], ◌∷◌, ◌++◌, length, get_or, ℤ, pos, negsuc, Option, Some, None, option_map, refl, ap, sym, ◌∙◌, inl, inr, ◌⊎◌, subst, nat_eq, slice_get, arith}
+use Rattle.lrat_checker.proofs.Common.{◌≡◌, ℕ, suc, ◌<◌, Bool, true, false, not, cond, ◌||◌, List, [], ◌∷◌, ◌++◌, length, get_or, ℤ, pos, negsuc, Option, Some, None, option_map, refl, ap, sym, ◌∙◌}
+use Rattle.lrat_checker.proofs.Common.{inl, inr, subst, eqb_tells, All-append, All-nil, All-cons, All-push, All-contains, Contains-push, slice_get-get_or, slice_get_within, variable, Values, value}
+use Rattle.lrat_checker.proofs.Common.{Satisfies, IsModel, Known, none, with_value, with_true, with_false, is_positive, literal, is_some_false, left, IsUnit, clause_at, Propagates, FollowsBy}
+use Rattle.lrat_checker.proofs.Common.{IsLegalAfter, IsLegalLog, EndsEmpty}
 use Rattle.std.specs.List.{list_any}
-use Rattle.std.proofs.lemmas.Bool.Decides.{eqb_tells}
-use Rattle.std.proofs.lemmas.List.Elements.{All-append, All-nil, All-cons, All-push, All-contains, Contains-push}
-use Rattle.std.proofs.lemmas.Option.{slice_get-get_or, slice_get_within}
-use Rattle.clause_store.specs.Clauses.{variable, Values, value, Satisfies, IsModel}
-use Rattle.clause_store.specs.Propagation.{Known, none, with_value, with_true, with_false, is_positive, literal, is_some_false, left, IsUnit, clause_at, Propagates, FollowsBy}
-use Rattle.lrat_checker.specs.LegalLogs.{IsLegalAfter, IsLegalLog, EndsEmpty}
 
 -- each known value is the variable's
 abbrev pub Agrees : Known → Values → Type 0

@@ -1,12 +1,7 @@
 -- With a lemma's literals false, the false literals are exactly the lemma's.
-use Rattle.std.proofs.Common.{◌≡◌, ℕ, zero, suc, Bool, true, false, not, List, [], ◌∷◌, ℤ, pos, negsuc, Some, option_map, refl, ap, sym, ◌∙◌, inl, inr, ◌⊎◌, subst, nat_eq, arith, if◌then◌else◌}
-use Rattle.std.specs.Prelude.{All, Contains}
-use Rattle.std.proofs.lemmas.Bool.Decides.{eqb_tells}
-use Rattle.std.proofs.lemmas.List.Elements.{Contains-append_right, All-weaker}
-use Rattle.clause_store.specs.Clauses.{variable}
-use Rattle.clause_store.specs.Propagation.{Known, none, with_value, with_false, is_positive, literal, is_some_false}
-use Rattle.lrat_checker.specs.LegalLogs.{is_named, AreFree, IsWithin}
-use Rattle.lrat_checker.specs.Steps.{IsFalse}
+use Rattle.lrat_checker.proofs.Common.{◌≡◌, ℕ, zero, suc, Bool, true, false, not, List, [], ◌∷◌, ℤ, pos, negsuc, Some, option_map, refl, ap, sym, ◌∙◌, inl, inr, ◌⊎◌, subst, nat_eq, arith}
+use Rattle.lrat_checker.proofs.Common.{if◌then◌else◌, All, Contains, eqb_tells, Contains-append_right, All-weaker, variable, Known, none, with_value, with_false, is_positive, literal, is_some_false}
+use Rattle.lrat_checker.proofs.Common.{is_named, AreFree, IsWithin, IsFalse}
 
 -- a literal is told by its variable and its sign
 pub same_literal : (l m : ℤ) → variable l ≡ variable m → is_positive l ≡ is_positive m → l ≡ m

@@ -9,6 +9,8 @@ use Rattle.lrat_checker.specs.Guards.{AreGuarded}
 abbrev pub log_of : Inside → Log
 log_of c = record { clauses = take c.clauses c.store; variables = c.variables; free = c.free; lemmas = drop c.clauses c.store }
 
+-- For proofs alone.
+
 -- what holds between the calls
 pub record IsSound (c : Inside) : Type 0 where
   pub split : c.clauses ≤ length c.store

@@ -2,6 +2,8 @@
 use Rattle.std.specs.Prelude.{◌≡◌, ℕ, ◌+◌, ◌-◌, ◌*◌, ◌<◌, ◌++◌, ◌∷◌, true, List, [], length, map, take, ℤ, pos, negsuc, Contains, Some, slice_get, slice_index_or, slice_set}
 use Rattle.lrat_checker.specs.declared.guards.Guards.{Guards}
 
+-- For proofs alone.
+
 -- the place of a literal's list
 abbrev pub place_of : ℤ → ℕ
 place_of (pos n) = 2 * n

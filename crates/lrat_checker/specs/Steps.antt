@@ -13,6 +13,8 @@ IsStep known clause Falsified = IsFalsified known clause
 IsStep known clause (Unit l) = IsUnit known clause l
 IsStep known clause Other = (IsFalsified known clause → ⊥) × ((l : ℤ) → IsUnit known clause l → ⊥)
 
+-- For proofs alone.
+
 -- why a lemma's literals are not placed
 abbrev pub IsPlacing : ℕ → List ℤ → CheckError → Type 0
 IsPlacing free lemma (BadLiteral i) = IsBadLiteral free lemma i

@@ -6,6 +6,8 @@ use Rattle.clause_store.specs.Propagation.{Known}
 abbrev pub known_of : List (Option Bool) → Known
 known_of table = λ v. slice_index_or table v None
 
+-- For proofs alone.
+
 -- each variable with a value is on the list, and the list names variables of the table alone
 pub record AreListed (table : List (Option Bool)) (assigned : List ℕ) : Type 0 where
   pub listed : (v : ℕ) → slice_index_or table v None ≢ None → Contains assigned v

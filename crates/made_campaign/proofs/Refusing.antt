@@ -1,20 +1,12 @@
 -- The texts of a made project are there, and none is too large: so only what they say is refused.
-use Rattle.std.proofs.Common.{◌≡◌, inl, inr, arith, false, ℕ, ◌^◌, ◌<◌, ◌≤◌, List, [], ◌∷◌, length, Option, None, Some, Result, Ok, Err, refl, sym, ap, subst, ◌∙◌}
-use Rattle.std.specs.Prelude.{codes, IfErr}
+use Rattle.made_campaign.proofs.Common.{◌≡◌, inl, inr, arith, false, ℕ, ◌^◌, ◌<◌, ◌≤◌, List, [], ◌∷◌, length, Option, None, Some, Result, Ok, Err, refl, sym, ap, subst, ◌∙◌, codes, IfErr, Gives, Held}
+use Rattle.made_campaign.proofs.Common.{IsLarge, look_up, Project, IsProject, Prepared, config_name, Exceeds, IsMade, Lacks, HasReadCause, IsNext, IsRead, IsUnmade, design_text, bench_text}
+use Rattle.made_campaign.proofs.Common.{config_text, made_files, IsOfTexts, made_held, made_limit}
 use Rattle.mcy_base.specs.Causes.{Rose}
 use Rattle.mcy_base.specs.declared.file.SourceFile.{SourceFile}
-use Rattle.mcy_outside.specs.Files.{Gives, Held, IsLarge, look_up}
-use Rattle.project_file.specs.declared.project.Project.{Project}
-use Rattle.project_file.specs.Projects.{IsProject}
 use Rattle.campaign_choice.specs.Limits.{max_bytes}
-use Rattle.campaign_reading.specs.Prepared.{Prepared}
 use Rattle.campaign_reading.specs.declared.refusal.Refusal.{Refusal}
 use Rattle.campaign_reading.specs.declared.refusal.Refusal.TheVariants.{ProjectBad, ScriptBad, SourceBad, Missing, TooLarge, ReadFault, Memory}
-use Rattle.campaign_reading.specs.Files.{config_name, Exceeds, IsMade, Lacks}
-use Rattle.campaign_reading.specs.Reads.{HasReadCause, IsNext, IsRead, IsUnmade}
-use Rattle.made_project.specs.Designs.{design_text}
-use Rattle.made_project.specs.Projects.{bench_text, config_text, made_files}
-use Rattle.made_campaign.specs.Made.{IsOfTexts, made_held, made_limit}
 use Rattle.made_campaign.proofs.Sections.{project_made, SaysMade}
 use Rattle.made_campaign.proofs.Sizes.{bench_short, config_short, design_short}
 

@@ -1,9 +1,7 @@
 -- What the project file of a seed says of the files of the project, and of the limits of its tests.
-use Rattle.std.proofs.Common.{◌≡◌, ℕ, zero, suc, ◌<◌, ◌^◌, ◌==◌, ◌-◌, Bool, true, false, ◌&&◌, List, [], ◌∷◌, ◌++◌, take, Option, None, Some, refl, sym, ap, subst, ◌∙◌, if◌then◌else◌}
-use Rattle.std.specs.Prelude.{codes, drop, length, nat_lt, slice_index}
-use Rattle.std.specs.List.{suffix_len}
-use Rattle.std.specs.Str.Lines.{lines}
-use Rattle.project_file.specs.declared.project.Project.{Project}
+use Rattle.made_campaign.proofs.Common.{◌≡◌, ℕ, zero, suc, ◌<◌, ◌^◌, ◌==◌, ◌-◌, Bool, true, false, ◌&&◌, List, [], ◌∷◌, ◌++◌, take, Option, None, Some, refl, sym, ap, subst, ◌∙◌, if◌then◌else◌, codes}
+use Rattle.made_campaign.proofs.Common.{drop, nat_lt, slice_index, suffix_len, lines, Project, design_in, IsProject, project_of, config_text, settings_text, made_limit}
+use Rattle.std.specs.Prelude.{length}
 use Rattle.project_lines.specs.Lines.{behind_word, find_line, front_word, from_word, header_of, is_blank, is_said, without_blanks_behind, words, in_brackets}
 use Rattle.project_lines.specs.Sections.{find_part, is_test, lead, lines_in, Part, parts_of, section_at, section_by, tests_in}
 use Rattle.project_lines.specs.Numbers.{is_digit, is_number, is_within, value, value_within}
@@ -11,10 +9,7 @@ use Rattle.project_lines.specs.Paths.{find_path, gather, last_part, path_of, wit
 use Rattle.project_lines.specs.Scripts.{command_of, script_reads}
 use Rattle.project_file.specs.Values.{args_in, is_auto_in, number_in}
 use Rattle.project_file.specs.Tests.{kind_in, plan_of, text_in}
-use Rattle.project_file.specs.Projects.{design_in, IsProject, project_of}
 use Rattle.project_limits.specs.Files.{all_files}
-use Rattle.made_project.specs.Projects.{config_text, settings_text}
-use Rattle.made_campaign.specs.Made.{made_limit}
 use Rattle.made_campaign.proofs.Lines.{config_lines}
 
 -- a text that begins with an `s` stands in no brackets

@@ -1,12 +1,9 @@
 -- The texts of a made project are short.
-use Rattle.std.proofs.Common.{◌≡◌, arith, ℕ, zero, suc, ◌+◌, ◌^◌, ◌*◌, ◌%◌, ◌/◌, ◌<◌, ◌≤◌, ◌==◌, Bool, true, false, List, ◌++◌, length, length-append, refl, if◌then◌else◌}
-use Rattle.std.specs.Prelude.{codes, decimal, nat_le}
-use Rattle.std.proofs.lemmas.Bool.{leb-true}
+use Rattle.made_campaign.proofs.Common.{◌≡◌, arith, ℕ, zero, suc, ◌+◌, ◌^◌, ◌*◌, ◌%◌, ◌/◌, ◌<◌, ◌≤◌, ◌==◌, Bool, true, false, List, ◌++◌, length, length-append, refl, if◌then◌else◌, codes, decimal}
+use Rattle.made_campaign.proofs.Common.{nat_le, leb-true, design_text, end_text, generator, head_text, net_line, net_lines, operator_text, bench_text, config_text, settings_text}
 use Rattle.std.proofs.lemmas.Fmt.{length-decimal-le}
 use Rattle.rand_pcg.specs.Lcg.{Lcg}
 use Rattle.rand_pcg.specs.Pcg.{pcg64}
-use Rattle.made_project.specs.Designs.{design_text, end_text, generator, head_text, net_line, net_lines, operator_text}
-use Rattle.made_project.specs.Projects.{bench_text, config_text, settings_text}
 
 -- a text that stands here
 pub short : (text : List ℕ) (most : ℕ) → nat_le (length text) most ≡ true → length text ≤ most

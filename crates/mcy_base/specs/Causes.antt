@@ -10,6 +10,8 @@ pub record IsCaused (before now : ℕ) (is_fault : Type 0) : Type 0 where
   pub later : before ≤ now
   pub failed : is_fault → Rose before now
 
+-- For proofs alone.
+
 -- a count with one fault more, which stays at its type's end
 abbrev pub one_more : ℕ → ℕ
 one_more faults = if nat_lt faults (2 ^ 64 - 1) then faults + 1 else faults

@@ -1,5 +1,5 @@
 -- A campaign that is begun in the empty book of a keeper, and a core over it.
-use Rattle.std.proofs.Common.{◌≡◌, ◌≢◌, ◌∙◌, List, [], Option, Result, Ok, Err, sym, subst}
+use Rattle.std.proofs.Common.{◌≡◌, List, [], Option, Result, Ok, Err, sym, subst}
 use Rattle.std.specs.Prelude.{OnOk}
 use Rattle.mcy_keeper.specs.declared.book.Book.{Book}
 use Rattle.mcy_keeper.specs.declared.book.Entry.{Entry}
@@ -8,13 +8,6 @@ use Rattle.mcy_keeper.specs.Books.{begun as begun_book, Keeps}
 use Rattle.result_book.specs.declared.campaign.Campaign.{Campaign}
 use Rattle.campaign_core.specs.Running.{book_of}
 use Rattle.campaign_core.specs.Turns.{Turns}
-use Rattle.campaign_plan.specs.declared.prepared.Prepared.{Prepared}
-use Rattle.campaign_plan.specs.Campaigns.{IsPlan}
-use Rattle.campaign_plan.proofs.Plans.{plan_meta}
-
--- a campaign has items
-pub plan_begins : (c : Prepared) → IsPlan c → c.campaign.meta ≢ []
-plan_begins c plan none = let made = sym none ∙ plan_meta c plan in cc
 
 -- a begin that ended well leaves the campaign's book without rows
 pub begins_kept : (holds holds' : Book → Type 0) (leaves' : Option Book → Type 0) (result : Result (Unit {0}) KeepError) (c : Campaign) (was : Book) → holds was

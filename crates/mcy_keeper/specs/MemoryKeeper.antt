@@ -20,6 +20,8 @@ pub record ScriptedKeeper : Type 0 where
   -- how many calls have failed
   pub faults : ℕ
 
+-- For proofs alone.
+
 -- what is said of the next call, if it is one that fails
 abbrev pub failure : ScriptedKeeper → Option Bool
 failure k = at_call k.failing k.next

@@ -19,6 +19,8 @@ pub record ScriptedFiles : Type 0 where
   -- how many calls have failed
   pub faults : ℕ
 
+-- For proofs alone.
+
 -- whether a list numbers this call
 abbrev pub is_listed : List ℕ → Option ℕ → Bool
 is_listed calls None = false

@@ -15,6 +15,8 @@ pub record ScriptedSink : Type 0 where
   -- how many calls have failed
   pub faults : ℕ
 
+-- For proofs alone.
+
 -- what a call takes of its piece: all of it, or so many bytes at most
 abbrev pub taken : Option ℕ → List ℕ → List ℕ
 taken None piece = piece

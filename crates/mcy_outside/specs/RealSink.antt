@@ -9,6 +9,8 @@ pub record Wrapped : Type 0 where
   -- how many calls have failed
   pub faults : ℕ
 
+-- For proofs alone.
+
 -- what the writer holds, where it says it, grew by the text up to this rest of it
 abbrev pub Moves : Option (List ℕ) → Option (List ℕ) → List ℕ → List ℕ → Type 0
 Moves before now text rest = (front : List ℕ) × (text ≡ front ++ rest) × Appends before now front

@@ -1,17 +1,7 @@
 -- A book that was begun, run and upgraded.
-use Rattle.std.proofs.Common.{◌≡◌, arith, false, List, [], ◌∷◌, refl, sym, ap, subst, ◌∙◌}
-use Rattle.mcy_keeper.specs.declared.book.Entry.{Entry}
-use Rattle.mcy_keeper.specs.declared.book.Book.{Book}
-use Rattle.mcy_keeper.specs.Books.{is_first, with_entry, IsFirst, IsSecond}
-use Rattle.result_book.proofs.Formats.{has_history, second_is_not_first}
-use Rattle.campaign_plan.specs.declared.prepared.Prepared.{Prepared}
-use Rattle.campaign_plan.specs.Campaigns.{IsPlan}
-use Rattle.campaign_plan.proofs.Plans.{plan_fit}
-use Rattle.result_book.specs.Rows.{history, upgrade_of, IsWellFormed}
-use Rattle.campaign_run.specs.Rows.{AreRight, IsGood, IsNextRow, IsUpgrade, IsWithinOne}
-use Rattle.campaign_run.specs.Changes.{opened, Upgraded}
-use Rattle.campaign_run.specs.Running.{book_of}
-use Rattle.campaign_run.proofs.Growing.{book_form, book_second, form_more, length_more, right_more}
+use Rattle.mcy_top.proofs.Common.{◌≡◌, arith, false, List, [], ◌∷◌, refl, sym, ap, subst, ◌∙◌, Entry, Book, is_first, with_entry, IsFirst, IsSecond, has_history, second_is_not_first, Prepared, IsPlan}
+use Rattle.mcy_top.proofs.Common.{plan_fit, history, upgrade_of, IsWellFormed, AreRight, IsGood, IsNextRow, IsUpgrade, IsWithinOne, opened, Upgraded, book_of, book_form, book_second, form_more}
+use Rattle.mcy_top.proofs.Common.{length_more, right_more}
 use Rattle.mcy_top.proofs.Prefixes.{on_itself, prefix_on}
 
 -- Histories.

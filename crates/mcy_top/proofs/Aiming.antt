@@ -1,14 +1,9 @@
 -- What a command aims at is a goal: its retry is under a limit, or it asks nothing again. Its slots are 1 to 64. And what is no demo works
 -- on the book.
-use Rattle.std.proofs.Common.{◌≡◌, ◌⊎◌, inl, inr, arith, ℕ, ◌%◌, Bool, true, List, [], Option, None, Some, refl, sym, ap, subst, ◌∙◌}
-use Rattle.std.specs.Prelude.{option_map}
-use Rattle.result_book.specs.Goals.{is_in, IsGoal}
-use Rattle.command_words.specs.Commands.{asked_of, command_of, mutations_of}
+use Rattle.mcy_top.proofs.Common.{◌≡◌, ◌⊎◌, inl, inr, arith, ℕ, ◌%◌, Bool, true, List, [], Option, None, Some, refl, sym, ap, subst, ◌∙◌, option_map, is_in, IsGoal, asked_of, command_of, mutations_of}
+use Rattle.mcy_top.proofs.Common.{Command, Init, Run, Listing, Status, Source, Baseline, Demo, jobs_are_few, retry_is_limit, aim_of, goal_of, retry_of, run_goal, AimsAtAll, AsksBaseline, AsksDemo}
+use Rattle.mcy_top.proofs.Common.{AsksNoDemo, HasSlots, OnBook, OnlyReads, Runs}
 use Rattle.command_words.specs.declared.asked.Asked.{Asked}
-use Rattle.command_words.specs.declared.command.Command.{Command}
-use Rattle.command_words.specs.declared.command.Command.TheVariants.{Init, Run, List as Listing, Status, Source, Baseline, Demo}
-use Rattle.command_words.proofs.Limits.{jobs_are_few, retry_is_limit}
-use Rattle.mcy_top.specs.Commands.{aim_of, goal_of, retry_of, run_goal, AimsAtAll, AsksBaseline, AsksDemo, AsksNoDemo, HasSlots, OnBook, OnlyReads, Runs}
 
 -- The command and the mutations that the words give.
 

@@ -1,12 +1,6 @@
 -- What an outcome says of the words and the files, once both are accepted.
-use Rattle.std.proofs.Common.{ℕ, List, Option}
-use Rattle.mcy_keeper.specs.declared.keeper.KeepError.{KeepError}
-use Rattle.mcy_keeper.specs.declared.keeper.KeepError.TheVariants.{Fault as KeepFault, Memory as KeepMemory}
-use Rattle.mcy_outside.specs.Files.{Held}
-use Rattle.campaign_outcomes.specs.declared.outcome.Outcome.{Outcome}
-use Rattle.campaign_outcomes.specs.declared.outcome.Outcome.TheVariants.{Done, Unfinished, BaselineBad, NoCampaign, AlreadyBegun, BookBad, KeeperFault, WriteFault, Memory, RequirementMissed, NoMutation}
-use Rattle.mcy_top.specs.Endings.{failed_outcome, HasLateCause}
-use Rattle.mcy_top.specs.Life.{Answered, IsAccepted}
+use Rattle.mcy_top.proofs.Common.{ℕ, List, Option, KeepError, KeepFault, KeepMemory, Held, Outcome, Done, Unfinished, BaselineBad, NoCampaign, AlreadyBegun, BookBad, KeeperFault, WriteFault, Memory}
+use Rattle.mcy_top.proofs.Common.{RequirementMissed, NoMutation, failed_outcome, HasLateCause, Answered, IsAccepted}
 
 -- the outcome of a call that has loaded a book
 pub late_answered : (words : List (List ℕ)) (held : Option Held) (keeper keeper' sink sink' : ℕ) (outcome : Outcome) → IsAccepted words held → HasLateCause keeper keeper' sink sink' outcome → Answered words held outcome

@@ -1,31 +1,10 @@
 -- How `baseline` ends.
-use Rattle.std.proofs.Common.{◌≡◌, ◌∙◌, ◌<◌, ℕ, List, Option, Bool, true, false, length, refl, sym, ap, subst}
-use Rattle.std.specs.Prelude.{◌↔◌, IsTrue}
-use Rattle.std.specs.List.{All}
-use Rattle.std.proofs.lemmas.List.Elements.{All-weaker}
-use Rattle.std.proofs.lemmas.Option.{slice_get_within}
-use Rattle.mcy_base.specs.Causes.{Rose}
-use Rattle.mcy_outside.specs.Files.{Held}
-use Rattle.campaign_plan.specs.declared.prepared.Prepared.{Prepared}
-use Rattle.campaign_plan.specs.declared.trial.Trial.TheVariants.{Simulation}
-use Rattle.campaign_plan.specs.Campaigns.{IsPlan}
+use Rattle.mcy_top.proofs.Common.{◌≡◌, ◌∙◌, ◌<◌, ℕ, List, Option, Bool, true, false, length, refl, sym, ap, subst, ◌↔◌, IsTrue, All, All-weaker, slice_get_within, Rose, Held, Prepared, Simulation}
+use Rattle.mcy_top.proofs.Common.{IsPlan, plan_fit, Refusal, IsMade, IsUnmade, AllPass, IsBaseline, baseline_limit, HasBaselines, Outcome, Done, BaselineBad, WriteFault, Memory, Ending, Written}
+use Rattle.mcy_top.proofs.Common.{Refused, NoMemory, baseline_outcome, baselines_text, TellsBaselines, ToldBaselines, ended_outcome, Delivers, Answered, HasCause, IsAccepted, IsQuiet, outcome_of}
 use Rattle.campaign_plan.proofs.Fitted.{plan_trials}
-use Rattle.campaign_plan.proofs.Plans.{plan_fit}
-use Rattle.campaign_reading.specs.declared.refusal.Refusal.{Refusal}
 use Rattle.campaign_reading.specs.declared.refusal.Refusal.TheVariants as r
-use Rattle.campaign_reading.specs.Files.{IsMade}
-use Rattle.campaign_reading.specs.Reads.{IsUnmade}
 use Rattle.campaign_run.specs.declared.baseline.Baseline.{Baseline}
-use Rattle.campaign_run.specs.Baselines.{AllPass, IsBaseline}
-use Rattle.campaign_run.specs.Limits.{baseline_limit, HasBaselines}
-use Rattle.campaign_outcomes.specs.declared.outcome.Outcome.{Outcome}
-use Rattle.campaign_outcomes.specs.declared.outcome.Outcome.TheVariants.{Done, BaselineBad, WriteFault, Memory}
-use Rattle.mcy_top.specs.declared.ending.Ending.{Ending}
-use Rattle.mcy_top.specs.declared.ending.Ending.TheVariants.{Written, Refused, NoMemory}
-use Rattle.mcy_top.specs.Baselines.{baseline_outcome, baselines_text, TellsBaselines, ToldBaselines}
-use Rattle.mcy_top.specs.Endings.{ended_outcome, Delivers}
-use Rattle.mcy_top.specs.Life.{Answered, HasCause, IsAccepted, IsQuiet}
-use Rattle.mcy_top.specs.Outcomes.{outcome_of}
 
 -- each is of a test that has a name
 pub tests_have_names : (c : Prepared) (list read : List Baseline) → read ≡ list → IsPlan c → HasBaselines c list → All (λ (b : Baseline). b.test < length c.campaign.test_names) read
@@ -87,7 +66,3 @@ told_made held c before now BaselineBad made tells = (c, made, tells)
 told_made held c before now WriteFault made tells = (c, made, tells)
 told_made held c before now Memory made tells = tells
 told_made held c before now o made tells = absurd tells
-
--- there was no memory for them
-pub told_memory : (held : Option Held) (before : Option (List ℕ)) → ToldBaselines held before before Memory
-told_memory held before = refl

@@ -1,25 +1,10 @@
 -- Baselines are told in one way, just where the files make a campaign.
-use Rattle.std.proofs.Common.{◌≡◌, ◌≢◌, ◌⊎◌, inl, inr, ℕ, List, Option, Some, refl, sym, ap, subst}
-use Rattle.mcy_outside.specs.Written.{Appends}
-use Rattle.campaign_plan.specs.declared.prepared.Prepared.{Prepared}
-use Rattle.campaign_plan.specs.Campaigns.{IsPlan}
-use Rattle.campaign_plan.proofs.OneCampaign.{plan_once}
-use Rattle.campaign_reading.specs.declared.refusal.Refusal.{Refusal}
+use Rattle.mcy_top.proofs.Common.{◌≡◌, ◌≢◌, ◌⊎◌, inl, inr, ℕ, List, Option, Some, refl, sym, ap, subst, Appends, Prepared, IsPlan, plan_once, Refusal, IsMade, IsUnmade, AllPass, lists_once}
+use Rattle.mcy_top.proofs.Common.{BaselinesAreOne, baseline_text, HasBaselines, Outcome, Done, BaselineBad, ProjectBad, ScriptBad, SourceBad, Missing, TooLarge, ReadFault, WriteFault, Memory}
+use Rattle.mcy_top.proofs.Common.{baselines_text, TellsBaselines, ToldBaselines, IsCutShort, outcome_of}
 use Rattle.campaign_reading.specs.declared.refusal.Refusal.TheVariants as r
-use Rattle.campaign_reading.specs.Files.{IsMade}
-use Rattle.campaign_reading.specs.Reads.{IsUnmade}
 use Rattle.campaign_run.specs.declared.baseline.Baseline.{Baseline}
-use Rattle.campaign_run.specs.Baselines.{AllPass}
-use Rattle.campaign_baseline.proofs.Limiting.{lists_once}
-use Rattle.campaign_baseline.specs.Laws.{BaselinesAreOne}
-use Rattle.campaign_baseline.specs.Lines.{baseline_text}
-use Rattle.campaign_run.specs.Limits.{HasBaselines}
-use Rattle.campaign_outcomes.specs.declared.outcome.Outcome.{Outcome}
-use Rattle.campaign_outcomes.specs.declared.outcome.Outcome.TheVariants.{Done, BaselineBad, ProjectBad, ScriptBad, SourceBad, Missing, TooLarge, ReadFault, WriteFault, Memory}
 use Rattle.mcy_top.specs.BaselineLaws.{AreTold, BaselineBadIsExact, BaselineCallsAgree, BaselineRefusalsAreExact, BaselinesComplete, WroteTheSame}
-use Rattle.mcy_top.specs.Baselines.{baselines_text, TellsBaselines, ToldBaselines}
-use Rattle.mcy_top.specs.Exact.{IsCutShort}
-use Rattle.mcy_top.specs.Outcomes.{outcome_of}
 use Rattle.mcy_top.proofs.Exacting.{refused_not_made, refused_once}
 
 -- One text.

@@ -1,18 +1,7 @@
 -- The tests in slots are of mutations that want a test, each of another one: so there are no more of them than such mutations.
-use Rattle.std.proofs.Common.{◌≡◌, inl, inr, arith, ℕ, zero, suc, ◌+◌, ◌<◌, ◌≤◌, ◌==◌, Bool, true, false, List, [], ◌∷◌, length, Option, None, Some, refl, sym, ap, subst, ◌∙◌, if◌then◌else◌}
-use Rattle.std.specs.Prelude.{is_some}
-use Rattle.std.proofs.lemmas.Bool.Decides.{eqb_tells}
-use Rattle.mcy_keeper.specs.declared.book.Entry.{Entry}
-use Rattle.result_book.specs.declared.campaign.Campaign.{Campaign}
-use Rattle.result_book.specs.declared.goal.Goal.{Goal}
-use Rattle.result_book.specs.declared.goal.Want.{Want}
-use Rattle.result_book.specs.Goals.{wanted}
-use Rattle.campaign_core.specs.Turns.{Busy, busy_count, IsIn, Turns}
-use Rattle.campaign_core.specs.UnderWay.{AreApart, IsBusy, IsUnderWay}
+use Rattle.mcy_top.proofs.Common.{◌≡◌, inl, inr, arith, ℕ, zero, suc, ◌+◌, ◌<◌, ◌≤◌, ◌==◌, Bool, true, false, List, [], ◌∷◌, length, Option, None, Some, refl, sym, ap, subst, ◌∙◌, if◌then◌else◌}
+use Rattle.mcy_top.proofs.Common.{is_some, eqb_tells, Entry, Campaign, Goal, Want, wanted, Busy, busy_count, IsIn, Turns, AreApart, IsBusy, IsUnderWay, Prepared, wanting, wanting_from, may_give}
 use Rattle.campaign_core.proofs.SlotLemmas.{count_first}
-use Rattle.campaign_plan.specs.declared.prepared.Prepared.{Prepared}
-use Rattle.mcy_top.specs.Life.{wanting, wanting_from}
-use Rattle.project_tester.specs.ProjectJobs.{may_give}
 
 -- how many of n numbers, from m on, are so
 abbrev counted : (ℕ → Bool) → (m n : ℕ) → ℕ

@@ -1,32 +1,12 @@
 -- A call that is ready and meets no fault succeeds, or finds no memory.
-use Rattle.std.proofs.Common.{◌≡◌, ◌≢◌, ◌⊎◌, inl, inr, ℕ, List, [], refl, sym, ap, subst, ◌∙◌, Option, None, Some}
-use Rattle.mcy_keeper.specs.declared.book.Book.{Book}
-use Rattle.mcy_keeper.specs.Books.{IsBlank}
-use Rattle.mcy_outside.specs.Files.{Held}
-use Rattle.result_book.specs.declared.check.BookError.{BookError}
-use Rattle.result_book.specs.declared.check.BookError.TheVariants.{Stray, Memory as NoMemoryFor}
-use Rattle.result_book.specs.Rows.{meta_in_second, IsWellFormed}
-use Rattle.command_words.specs.declared.command.Command.{Command}
-use Rattle.command_words.specs.declared.command.Command.TheVariants.{Init, Run, List as Listing, Status, Source, Baseline, Demo}
-use Rattle.result_book.specs.declared.goal.Goal.{Goal}
-use Rattle.campaign_plan.specs.declared.prepared.Prepared.{Prepared}
-use Rattle.campaign_reading.specs.declared.refusal.Refusal.{Refusal}
-use Rattle.campaign_reading.specs.declared.refusal.Refusal.TheVariants.{ProjectBad as RefusedProject, ScriptBad as RefusedScript, SourceBad as RefusedSource, Missing as RefusedMissing, TooLarge as RefusedTooLarge}
-use Rattle.mcy_top.specs.declared.refusal.BookRefusal.{BookRefusal}
-use Rattle.mcy_top.specs.declared.refusal.BookRefusal.TheVariants.{NoCampaign as RefusedNone, AlreadyBegun as RefusedBegun, BookBad as RefusedBook, NoMutation as RefusedMutation, Memory as NoMemory}
-use Rattle.campaign_outcomes.specs.declared.outcome.Outcome.{Outcome}
-use Rattle.campaign_outcomes.specs.declared.outcome.Outcome.TheVariants.{Done, Unfinished, BaselineBad, Usage, ProjectBad, ScriptBad, SourceBad, Missing, TooLarge, NoCampaign, AlreadyBegun, BookBad, ReadFault, KeeperFault, WriteFault, Memory, RequirementMissed, NoMutation}
-use Rattle.command_words.specs.Commands.{command_of}
-use Rattle.mcy_top.specs.Commands.{aim_of, stop_of, AsksNoDemo, IsAside, OnBook}
+use Rattle.mcy_top.proofs.Common.{◌≡◌, ◌≢◌, ◌⊎◌, inl, inr, ℕ, List, [], refl, sym, ap, subst, ◌∙◌, Option, None, Some, Book, IsBlank, Held, BookError, Stray, NoMemoryFor, meta_in_second, IsWellFormed}
+use Rattle.mcy_top.proofs.Common.{Command, Init, Run, Listing, Status, Source, Baseline, Demo, Goal, Prepared, Refusal, RefusedProject, RefusedScript, RefusedSource, RefusedMissing, RefusedTooLarge}
+use Rattle.mcy_top.proofs.Common.{BookRefusal, RefusedNone, RefusedBegun, RefusedBook, RefusedMutation, Outcome, Done, Unfinished, BaselineBad, Usage, ProjectBad, ScriptBad, SourceBad, Missing}
+use Rattle.mcy_top.proofs.Common.{TooLarge, NoCampaign, AlreadyBegun, BookBad, ReadFault, KeeperFault, WriteFault, Memory, RequirementMissed, NoMutation, command_of, aim_of, stop_of, AsksNoDemo}
+use Rattle.mcy_top.proofs.Common.{IsAside, OnBook, IsPlan, IsUnmade, IsByFiles, IsBookBad, RefusesBook, IsUnfit, Opens, Answered, Answers, EndsEarly, HasCause, Life, Takes, Unloaded, plan_meta}
+use Rattle.mcy_top.specs.declared.refusal.BookRefusal.TheVariants.{Memory as NoMemory}
 use Rattle.campaign_choice.specs.Campaigns.{meta_of}
-use Rattle.campaign_plan.specs.Campaigns.{IsPlan}
-use Rattle.campaign_reading.specs.Reads.{IsUnmade}
-use Rattle.campaign_reading.specs.Laws.{IsByFiles}
-use Rattle.mcy_top.specs.BookRefusals.{IsBookBad, RefusesBook}
-use Rattle.mcy_top.specs.Limits.{IsUnfit, Opens}
-use Rattle.mcy_top.specs.Life.{Answered, Answers, EndsEarly, HasCause, Life, Takes, Unloaded}
 use Rattle.mcy_top.specs.Complete.{Completes, IsReady, NoneRose}
-use Rattle.campaign_plan.proofs.Plans.{plan_meta}
 use Rattle.campaign_reading.proofs.OneCause.{unmade_not}
 
 -- A book that is taken is not refused.
@@ -35,7 +15,7 @@ pub blank_meta : (book : Book) → IsBlank book → book.meta ≡ []
 blank_meta book empty = ap (λ (b : Book). b.meta) empty
 
 -- a campaign's book is begun
-form_meta : (c : Prepared) (book : Book) → IsPlan c → IsWellFormed c.campaign book → book.meta ≢ []
+pub form_meta : (c : Prepared) (book : Book) → IsPlan c → IsWellFormed c.campaign book → book.meta ≢ []
 form_meta c book plan form none = let is : meta_of plan.config plan.files ≡ [] = sym (plan_meta c plan) ∙ sym form.meta ∙ ap meta_in_second none in cc
 
 -- what a command takes is blank, or is the campaign's book

@@ -1,15 +1,6 @@
 -- How many mutations want a test.
-use Rattle.std.proofs.Common.{◌≡◌, arith, ℕ, zero, suc, ◌+◌, ◌<◌, ◌≤◌, true, false, List, Option, None, Some, refl, ap, subst}
-use Rattle.std.specs.Prelude.{is_some}
-use Rattle.mcy_keeper.specs.declared.book.Entry.{Entry}
-use Rattle.result_book.specs.declared.goal.Goal.{Goal}
-use Rattle.result_book.specs.declared.goal.Want.{Want}
-use Rattle.result_book.specs.Goals.{wanted}
-use Rattle.campaign_plan.specs.declared.prepared.Prepared.{Prepared}
-use Rattle.result_book.specs.Rows.{groups}
-use Rattle.mcy_top.specs.Endings.{done_outcome, run_outcome}
-use Rattle.mcy_top.specs.Requirements.{falls_short}
-use Rattle.mcy_top.specs.Life.{wanting, wanting_from}
+use Rattle.mcy_top.proofs.Common.{◌≡◌, arith, ℕ, zero, suc, ◌+◌, ◌<◌, ◌≤◌, true, false, List, Option, None, Some, refl, ap, subst, is_some, Entry, Goal, Want, wanted, Prepared, groups, done_outcome}
+use Rattle.mcy_top.proofs.Common.{run_outcome, falls_short, wanting, wanting_from}
 
 -- where none wants a test, none is counted
 pub counted_none : (c : Prepared) (goal : Goal) (rows : List Entry) (m n : ℕ) → ((k : ℕ) → k < n → wanted c.campaign rows (m + k) goal ≡ None) → wanting_from c goal rows m n ≡ 0

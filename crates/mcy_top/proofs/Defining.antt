@@ -1,29 +1,8 @@
 -- The read tests of a mutation are a first part of what the campaign defines for it: so there are no more of them, and fewer where the
 -- script needs another test.
-use Rattle.std.proofs.Common.{◌≡◌, arith, ℕ, zero, suc, ◌+◌, ◌<◌, ◌≤◌, true, false, List, [], ◌∷◌, ◌++◌, length, Option, None, Some, refl, sym, ap, subst, ◌∙◌, append_assoc, if◌then◌else◌}
-use Rattle.std.specs.Prelude.{is_some, ⊤}
-use Rattle.std.proofs.lemmas.List.{append-nil}
-use Rattle.mcy_keeper.specs.declared.book.Entry.{Entry}
-use Rattle.mcy_keeper.specs.declared.book.Book.{Book}
-use Rattle.tag_script.specs.declared.answer.Ask.{Ask}
-use Rattle.tag_script.specs.declared.answer.Ask.TheVariants.{Need}
-use Rattle.result_book.specs.declared.answer.Answer.{Answer}
-use Rattle.result_book.specs.declared.goal.Goal.{Goal}
-use Rattle.result_book.specs.declared.goal.Want.{Want}
-use Rattle.result_book.specs.Goals.{wanted, IsGoal}
-use Rattle.result_book.specs.Rows.{answers_of, ask_on, groups_from, read_on, AreRows}
-use Rattle.result_book.specs.Scripts.{ask, is_ended}
-use Rattle.result_book.proofs.Reading.{read_asks, read_next}
-use Rattle.result_book.proofs.Wanting.{want_follows}
-use Rattle.campaign_plan.specs.declared.prepared.Prepared.{Prepared}
-use Rattle.campaign_plan.specs.Campaigns.{IsPlan}
-use Rattle.campaign_plan.proofs.Plans.{plan_fit}
-use Rattle.campaign_run.specs.Rows.{AreRight}
-use Rattle.campaign_run.specs.Running.{book_of}
-use Rattle.campaign_run.proofs.Growing.{book_second}
-use Rattle.mcy_top.specs.Defined.{given_up, AreAllAnswers, AreAnswers, IsWordOf, Pair}
-use Rattle.mcy_top.specs.Life.{wanting_from}
-use Rattle.mcy_top.specs.Shown.{tests_in}
+use Rattle.mcy_top.proofs.Common.{◌≡◌, arith, ℕ, zero, suc, ◌+◌, ◌<◌, ◌≤◌, true, false, List, [], ◌∷◌, ◌++◌, length, Option, None, Some, refl, sym, ap, subst, ◌∙◌, append_assoc, if◌then◌else◌}
+use Rattle.mcy_top.proofs.Common.{is_some, ⊤, append-nil, Entry, Book, Ask, Need, Answer, Goal, Want, wanted, IsGoal, answers_of, ask_on, groups_from, read_on, AreRows, ask, is_ended, read_asks}
+use Rattle.mcy_top.proofs.Common.{read_next, want_follows, Prepared, IsPlan, plan_fit, AreRight, book_of, book_second, given_up, AreAllAnswers, AreAnswers, IsWordOf, Pair, wanting_from, tests_in}
 use Rattle.mcy_top.proofs.Advancing.{history_second}
 use Rattle.mcy_top.proofs.Finishing.{read_right}
 use Rattle.mcy_top.proofs.Fresh.{new_of, wanted_first}

@@ -1,15 +1,6 @@
 -- A command that is done, whether what is required of the campaign is met or missed.
-use Rattle.std.proofs.Common.{◌≡◌, ℕ, Bool, true, false, List, Option}
-use Rattle.mcy_keeper.specs.declared.book.Book.{Book}
-use Rattle.mcy_outside.specs.Written.{Appends}
-use Rattle.command_words.specs.declared.command.Command.{Command}
-use Rattle.result_book.specs.declared.goal.Goal.{Goal}
-use Rattle.campaign_plan.specs.declared.prepared.Prepared.{Prepared}
-use Rattle.campaign_outcomes.specs.declared.outcome.Outcome.{Outcome}
-use Rattle.campaign_outcomes.specs.declared.outcome.Outcome.TheVariants.{Done, RequirementMissed}
-use Rattle.mcy_top.specs.Requirements.{misses_on}
-use Rattle.mcy_top.specs.Life.{Answers, Carried, DidAll, IsDone, Wrote}
-use Rattle.mcy_top.specs.Endings.{done_outcome}
+use Rattle.mcy_top.proofs.Common.{◌≡◌, ℕ, Bool, true, false, List, Option, Book, Appends, Command, Goal, Prepared, Outcome, Done, RequirementMissed, misses_on, Answers, Carried, DidAll, IsDone, Wrote}
+use Rattle.mcy_top.proofs.Common.{done_outcome}
 
 -- what its outcome says of the book and of the text
 pub done_all : (command : Command) (aim : Goal) (c : Prepared) (loaded sure : Book) (o : Outcome) → IsDone o → Answers command aim c loaded sure o → DidAll command aim c loaded sure

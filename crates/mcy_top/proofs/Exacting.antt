@@ -1,29 +1,11 @@
 -- Each refusal comes exactly where its cause holds.
-use Rattle.std.proofs.Common.{◌≡◌, ◌⊎◌, inl, inr, ℕ, List, refl, sym, ap, subst, ◌∙◌, Option, None, Some}
-use Rattle.mcy_keeper.specs.declared.book.Book.{Book}
-use Rattle.mcy_outside.specs.Files.{Held}
-use Rattle.result_book.specs.declared.check.BookError.{BookError}
-use Rattle.result_book.specs.declared.check.BookError.TheVariants.{Stray, Memory as NoMemoryFor}
-use Rattle.command_words.specs.declared.command.Command.{Command}
-use Rattle.result_book.specs.declared.goal.Goal.{Goal}
-use Rattle.campaign_plan.specs.declared.prepared.Prepared.{Prepared}
-use Rattle.campaign_reading.specs.declared.refusal.Refusal.{Refusal}
-use Rattle.campaign_reading.specs.declared.refusal.Refusal.TheVariants.{ProjectBad as RefusedProject, ScriptBad as RefusedScript, SourceBad as RefusedSource, Missing as RefusedMissing, TooLarge as RefusedTooLarge, ReadFault as RefusedRead, Memory as RefusedMemory}
-use Rattle.mcy_top.specs.declared.refusal.BookRefusal.{BookRefusal}
-use Rattle.mcy_top.specs.declared.refusal.BookRefusal.TheVariants.{NoCampaign as RefusedNone, AlreadyBegun as RefusedBegun, BookBad as RefusedBook, NoMutation as RefusedMutation, Memory as NoMemory}
-use Rattle.campaign_outcomes.specs.declared.outcome.Outcome.{Outcome}
-use Rattle.campaign_outcomes.specs.declared.outcome.Outcome.TheVariants.{Done, Unfinished, BaselineBad, Usage, ProjectBad, ScriptBad, SourceBad, Missing, TooLarge, NoCampaign, AlreadyBegun, BookBad, ReadFault, KeeperFault, WriteFault, Memory, RequirementMissed, NoMutation}
-use Rattle.command_words.specs.Commands.{command_of}
-use Rattle.campaign_reading.specs.Files.{IsMade}
-use Rattle.campaign_plan.specs.Campaigns.{IsPlan}
-use Rattle.campaign_reading.specs.Laws.{IsByFiles}
-use Rattle.campaign_reading.specs.Reads.{IsUnmade}
-use Rattle.mcy_top.specs.Outcomes.{book_outcome, outcome_of}
-use Rattle.mcy_top.specs.BookRefusals.{IsBookBad, RefusesBook}
-use Rattle.mcy_top.specs.Life.{Answered, Answers, Commands, IsAccepted, Takes}
-use Rattle.mcy_top.specs.Exact.{IsCutShort, RefusesFiles, RefusesFor}
+use Rattle.mcy_top.proofs.Common.{◌≡◌, ◌⊎◌, inl, inr, ℕ, List, refl, sym, ap, subst, ◌∙◌, Option, None, Some, Book, Held, BookError, Stray, NoMemoryFor, Command, Goal, Prepared, Refusal}
+use Rattle.mcy_top.proofs.Common.{RefusedProject, RefusedScript, RefusedSource, RefusedMissing, RefusedTooLarge, RefusedRead, RefusedMemory, BookRefusal, RefusedNone, RefusedBegun, RefusedBook}
+use Rattle.mcy_top.proofs.Common.{RefusedMutation, Outcome, Done, Unfinished, BaselineBad, Usage, ProjectBad, ScriptBad, SourceBad, Missing, TooLarge, NoCampaign, AlreadyBegun, BookBad, ReadFault}
+use Rattle.mcy_top.proofs.Common.{KeeperFault, WriteFault, Memory, RequirementMissed, NoMutation, command_of, IsMade, IsPlan, IsByFiles, IsUnmade, book_outcome, outcome_of, IsBookBad, RefusesBook}
+use Rattle.mcy_top.proofs.Common.{Answered, Answers, Commands, IsAccepted, Takes, IsCutShort, RefusesFiles, RefusesFor, Runs}
+use Rattle.mcy_top.specs.declared.refusal.BookRefusal.TheVariants.{Memory as NoMemory}
 use Rattle.mcy_top.proofs.OneFault.{refused_for_one}
-use Rattle.mcy_top.specs.Commands.{Runs}
 use Rattle.mcy_top.proofs.Kept.{reads_not_runs}
 use Rattle.mcy_top.proofs.Completing.{bad_not, begun_not_bad, blank_meta, blank_not_bad, taken_not_refused}
 use Rattle.campaign_reading.proofs.OneCause.{refused_once as one_cause, refused_not_made as none_made}

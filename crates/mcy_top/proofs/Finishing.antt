@@ -1,34 +1,11 @@
 -- The read tests of a good book that is finished are what the campaign defines with the pairs that the rows give up.
-use Rattle.std.proofs.Common.{◌≡◌, ◌≢◌, inl, inr, arith, ℕ, zero, suc, ◌+◌, ◌<◌, Bool, true, false, ◌==◌, ◌&&◌, MatchBool, List, [], ◌∷◌, ◌++◌, length, slice_get, Option, None, Some, refl, sym, ap, subst, ◌∙◌, append_assoc, if◌then◌else◌}
-use Rattle.std.specs.Prelude.{unwrap_or}
-use Rattle.std.specs.Option.{option_or}
-use Rattle.std.proofs.lemmas.Bool.Decides.{eqb_tells, leb_tells}
-use Rattle.std.proofs.lemmas.List.{append-nil}
-use Rattle.std.proofs.lemmas.Option.{slice_get_past}
-use Rattle.mcy_keeper.specs.declared.book.Entry.{Entry}
-use Rattle.mcy_keeper.specs.declared.book.Book.{Book}
-use Rattle.mutation_sites.specs.declared.site.Site.{Site}
-use Rattle.campaign_plan.specs.declared.prepared.Prepared.{Prepared}
-use Rattle.mcy_keeper.specs.Books.{is_first}
-use Rattle.tag_script.specs.Outcomes.{word_at}
-use Rattle.result_book.specs.declared.campaign.Campaign.{Campaign}
-use Rattle.result_book.specs.declared.answer.Answer.{Answer}
-use Rattle.result_book.specs.Scripts.{ask, asked_on, is_ended, known_first, known_of, read_answers, word_in, words_of}
-use Rattle.result_book.specs.Rows.{answers_of, ask_on, groups, groups_from, history, read_on, IsFinished}
-use Rattle.result_book.proofs.Formats.{history_rows, seconds_answers}
-use Rattle.result_book.proofs.Reading.{read_asks, read_next}
-use Rattle.result_book.proofs.Words.{length-words_of, word_at-words_of}
-use Rattle.campaign_plan.specs.Campaigns.{IsPlan}
-use Rattle.campaign_plan.proofs.Plans.{plan_fit}
-use Rattle.campaign_run.specs.Rows.{AreRight, IsGivenUpAt, IsRightWord, IsTrueWord, IsTrueWordAt}
-use Rattle.command_words.specs.declared.command.Command.{Command}
-use Rattle.mcy_top.specs.Texts.{text_of}
+use Rattle.mcy_top.proofs.Common.{◌≡◌, ◌≢◌, inl, inr, arith, ℕ, zero, suc, ◌+◌, ◌<◌, Bool, true, false, ◌==◌, ◌&&◌, MatchBool, List, [], ◌∷◌, ◌++◌, length, slice_get, Option, None, Some, refl, sym}
+use Rattle.mcy_top.proofs.Common.{ap, subst, ◌∙◌, append_assoc, if◌then◌else◌, unwrap_or, option_or, eqb_tells, leb_tells, append-nil, slice_get_past, Entry, Book, Site, Prepared, is_first, word_at}
+use Rattle.mcy_top.proofs.Common.{Campaign, Answer, ask, asked_on, is_ended, known_first, known_of, read_answers, word_in, words_of, answers_of, ask_on, groups, groups_from, history, read_on}
+use Rattle.mcy_top.proofs.Common.{IsFinished, history_rows, seconds_answers, read_asks, read_next, length-words_of, word_at-words_of, IsPlan, plan_fit, AreRight, IsGivenUpAt, IsRightWord, IsTrueWord}
+use Rattle.mcy_top.proofs.Common.{IsTrueWordAt, Command, text_of, Trial, Equality, Simulation, told_verdict, given_up, is_equality, is_given_up, AreAllAnswers, AreAnswers, IsFinalText, IsWordOf, Pair}
 use Rattle.tb_turns.specs.declared.verdict.SimVerdict.{SimVerdict}
 use Rattle.tb_turns.specs.declared.verdict.SimVerdict.TheVariants as v
-use Rattle.campaign_plan.specs.declared.trial.Trial.{Trial}
-use Rattle.campaign_plan.specs.declared.trial.Trial.TheVariants.{Equality, Simulation}
-use Rattle.campaign_run.specs.Simulated.{told_verdict}
-use Rattle.mcy_top.specs.Defined.{given_up, is_equality, is_given_up, AreAllAnswers, AreAnswers, IsFinalText, IsWordOf, Pair}
 use Rattle.mcy_top.proofs.Pairs.{given_last, is_unknown}
 
 -- a word that is given up is UNKNOWN

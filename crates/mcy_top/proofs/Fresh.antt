@@ -1,28 +1,11 @@
 -- Where no test is asked again, the read tests of a mutation are those of its rows, and the tests of all mutations are as many as the rows.
-use Rattle.std.proofs.Common.{◌≡◌, ◌≢◌, inl, inr, arith, ℕ, zero, suc, ◌+◌, ◌<◌, ◌≤◌, ◌==◌, Bool, true, false, List, [], ◌∷◌, ◌++◌, length, Option, None, Some, refl, sym, ap, subst, ◌∙◌, append_assoc, if◌then◌else◌}
-use Rattle.std.specs.Prelude.{is_some, option_map, slice_index, ⊤}
-use Rattle.std.specs.Option.{option_or}
-use Rattle.std.proofs.lemmas.Bool.Decides.{eqb_tells}
-use Rattle.std.proofs.lemmas.List.{append-nil}
-use Rattle.mcy_keeper.specs.declared.book.Entry.{Entry}
-use Rattle.tag_script.specs.declared.answer.Ask.TheVariants.{Need}
-use Rattle.tag_script.specs.Outcomes.{word_at}
-use Rattle.result_book.specs.declared.answer.Answer.{Answer}
-use Rattle.result_book.specs.declared.campaign.Campaign.{Campaign}
-use Rattle.result_book.specs.declared.goal.Goal.{Goal}
-use Rattle.result_book.specs.declared.goal.Want.{Want}
-use Rattle.result_book.specs.Campaigns.{first_bound, IsFit}
-use Rattle.result_book.specs.Goals.{is_in, is_open, next_bound, open_test, want_of, wanted, wanted_by}
-use Rattle.result_book.specs.Rows.{answer_of, answers_of, bounds_on, groups, read_on, AreRows, IsNew, MayFollow}
-use Rattle.result_book.specs.Scripts.{ask, asked_on, each_from, read_answers, word_in, words_of}
+use Rattle.mcy_top.proofs.Common.{◌≡◌, ◌≢◌, inl, inr, arith, ℕ, zero, suc, ◌+◌, ◌<◌, ◌≤◌, ◌==◌, Bool, true, false, List, [], ◌∷◌, ◌++◌, length, Option, None, Some, refl, sym, ap, subst, ◌∙◌}
+use Rattle.mcy_top.proofs.Common.{append_assoc, if◌then◌else◌, is_some, slice_index, ⊤, option_or, eqb_tells, append-nil, Entry, Need, word_at, Answer, Campaign, Goal, Want, first_bound, IsFit, is_in}
+use Rattle.mcy_top.proofs.Common.{is_open, next_bound, open_test, wanted, wanted_by, answer_of, answers_of, bounds_on, groups, read_on, AreRows, IsNew, MayFollow, ask, asked_on, each_from}
+use Rattle.mcy_top.proofs.Common.{read_answers, word_in, words_of, read_asks, read_next, word_at-words_of, word_in-same, Prepared, AreWanted, tests_in, wanted_in, wanted_at}
 use Rattle.result_book.proofs.Asking.{found_true, need_by}
 use Rattle.result_book.proofs.Grouping.{answers_of-other, answers_of-same}
-use Rattle.result_book.proofs.Reading.{read_asks, read_next}
 use Rattle.result_book.proofs.Standing.{given_up_parts}
-use Rattle.result_book.proofs.Words.{word_at-words_of, word_in-same}
-use Rattle.campaign_plan.specs.declared.prepared.Prepared.{Prepared}
-use Rattle.campaign_run.specs.Running.{AreWanted}
-use Rattle.mcy_top.specs.Shown.{tests_in}
 use Rattle.mcy_top.proofs.Finishing.{known_word_at, read_word}
 
 -- Answers, each of the test that the script asks for on those before it.
@@ -110,17 +93,6 @@ abbrev pub AreNew : Campaign → (earlier rows : List Entry) → Type 0
 AreNew c earlier [] = ⊤
 AreNew c earlier (e ∷ more) = (e.test < 16) × IsNew c earlier e.mutation e.test × (e.bound ≡ first_bound c e.test) × AreNew c (earlier ++ e ∷ []) more
 
-wanted_if : (b : Bool) (found : Option Want) (want : Want) → (if b then found else None) ≡ Some want → found ≡ Some want
-wanted_if true found want is = is
-wanted_if false found want is = absurd (let never : None ≡ Some want = is in cc)
-
-wanted_parts : (c : Campaign) (words : List (Option ℕ)) (limit : ℕ) (found : Option ℕ) (want : Want) → option_map (want_of c words limit) found ≡ Some want → (found ≡ Some want.test) × (want.bound ≡ next_bound c limit want.test (word_at words want.test))
-wanted_parts c words limit None want is = absurd (let never : None ≡ Some want = is in cc)
-wanted_parts c words limit (Some t) want is =
-    let both : Some (want_of c words limit t) ≡ Some want = is in
-    let same : want_of c words limit t ≡ want = cc in
-    (ap (λ (w : Want). Some w.test) same, subst (λ (w : Want). w.bound ≡ next_bound c limit w.test (word_at words w.test)) same refl)
-
 open_none : (limit bound : ℕ) (o : Option ℕ) → limit ≡ 0 → is_open limit o bound ≡ true → o ≡ None
 open_none limit bound None zero_is is = refl
 open_none limit bound (Some word) zero_is is = absurd (let parts = given_up_parts limit word bound is in omega (arith, zero_is, parts.1))
@@ -130,7 +102,7 @@ pub wanted_first : (c : Campaign) (rows : List Entry) (m : ℕ) (goal : Goal) (w
 wanted_first c rows m goal want never is =
     let words : List (Option ℕ) = words_of (answers_of m rows) in
     let bounds : List ℕ = bounds_on m rows in
-    let at = wanted_parts c words goal.retry (open_test c words bounds goal.retry) want (wanted_if (is_in goal m) (wanted_by c words bounds goal.retry) want is) in
+    let at = wanted_at c words goal.retry (open_test c words bounds goal.retry) want (wanted_in (is_in goal m) (wanted_by c words bounds goal.retry) want is) in
     let now : is_open goal.retry (word_at words want.test) (slice_index bounds want.test) ≡ true = found_true (λ t. is_open goal.retry (word_at words t) (slice_index bounds t)) (asked_on c words) want.test at.0 in
     let none : word_at words want.test ≡ None = open_none goal.retry (slice_index bounds want.test) (word_at words want.test) never now in
     (none, at.1 ∙ ap (next_bound c goal.retry want.test) none)

@@ -1,16 +1,6 @@
 -- The rows that a call gains are those that were wanted.
-use Rattle.std.proofs.Common.{◌≡◌, Bool, true, false, List, [], ◌∷◌, ◌++◌, length, arith, refl, sym, ap, subst, ◌∙◌, length-append}
-use Rattle.mcy_keeper.specs.declared.book.Entry.{Entry}
-use Rattle.mcy_keeper.specs.declared.book.Book.{Book}
-use Rattle.mcy_keeper.specs.Books.{blank, is_first}
-use Rattle.result_book.specs.declared.goal.Goal.{Goal}
-use Rattle.result_book.specs.Rows.{history}
-use Rattle.campaign_plan.specs.declared.prepared.Prepared.{Prepared}
-use Rattle.campaign_plan.specs.Campaigns.{IsPlan}
-use Rattle.campaign_run.specs.Changes.{opened}
-use Rattle.campaign_run.specs.Running.{book_of, AreWanted, Ran}
-use Rattle.campaign_run.proofs.Growing.{book_second}
-use Rattle.mcy_top.specs.Life.{GainsWanted}
+use Rattle.mcy_top.proofs.Common.{◌≡◌, Bool, true, false, List, [], ◌∷◌, ◌++◌, length, arith, refl, sym, ap, subst, ◌∙◌, length-append, Entry, Book, blank, is_first, Goal, history, Prepared, IsPlan}
+use Rattle.mcy_top.proofs.Common.{opened, book_of, AreWanted, Ran, book_second, GainsWanted}
 use Rattle.mcy_top.proofs.Advancing.{history_second}
 use Rattle.mcy_top.proofs.Prefixes.{bounded_length}
 

@@ -1,20 +1,7 @@
 -- Lists of calls over one keeper.
-use Rattle.std.proofs.Common.{◌≡◌, inl, inr, ℕ, zero, suc, List, [], ◌∷◌, take, refl, sym, subst, Option, Some, IsSomeAnd}
-use Rattle.mcy_keeper.specs.declared.book.Book.{Book}
-use Rattle.mcy_keeper.specs.Books.{LeavesNothingNew, LeavesSome}
-use Rattle.result_book.specs.Rows.{history}
-use Rattle.result_book.specs.declared.goal.Goal.{Goal}
-use Rattle.campaign_plan.specs.declared.prepared.Prepared.{Prepared}
-use Rattle.campaign_plan.specs.Campaigns.{IsPlan}
-use Rattle.campaign_run.specs.Changes.{Course, IsNear}
-use Rattle.campaign_run.specs.Rows.{AreRight, IsBlankOrGood}
-use Rattle.campaign_run.specs.Crashes.{LeavesBooks}
-use Rattle.mcy_top.specs.Texts.{text_of}
-use Rattle.mcy_top.specs.Commands.{aim_of}
-use Rattle.mcy_top.specs.Life.{DidAll, IsDone}
-use Rattle.mcy_top.specs.Lives.{AreSafe, IsHistory, IsStart}
+use Rattle.mcy_top.proofs.Common.{◌≡◌, inl, inr, ℕ, zero, suc, List, [], ◌∷◌, take, refl, sym, subst, Option, Some, IsSomeAnd, Book, LeavesNothingNew, LeavesSome, history, Goal, Prepared, IsPlan}
+use Rattle.mcy_top.proofs.Common.{Course, IsNear, AreRight, IsBlankOrGood, LeavesBooks, text_of, aim_of, DidAll, IsDone, AreSafe, IsHistory, IsStart, weaker_books}
 use Rattle.mcy_top.specs.Histories.{AllFindBooks, AllTellTrue, AreTurns, Call, Cut, CutEarly, Ended, entry_of, IsNew, IsTurn, last_of, Left, lives_of, Loads, LoadsNone, TellsFinal, TellsTrue, Turn}
-use Rattle.campaign_run.proofs.Crashes.{weaker_books}
 use Rattle.mcy_top.proofs.Aiming.{aims_at_all}
 use Rattle.mcy_top.proofs.Doing.{done_all, done_wrote}
 use Rattle.mcy_top.proofs.Finishing.{final_is}

@@ -1,11 +1,5 @@
 -- Books in the order of a run.
-use Rattle.std.proofs.Common.{◌≡◌, ◌∙◌, [], ℕ, refl}
-use Rattle.mcy_keeper.specs.declared.book.Book.{Book}
-use Rattle.result_book.specs.declared.goal.Goal.{Goal}
-use Rattle.result_book.specs.Rows.{history}
-use Rattle.campaign_core.specs.UnderWay.{begun}
-use Rattle.campaign_plan.specs.declared.prepared.Prepared.{Prepared}
-use Rattle.mcy_top.specs.ProgramOrder.{IsInOrder}
+use Rattle.mcy_top.proofs.Common.{◌≡◌, ◌∙◌, [], ℕ, refl, Book, Goal, history, begun, Prepared, IsInOrder}
 
 -- no rows were added
 pub none_in_order : (c : Prepared) (aim : Goal) (jobs : ℕ) (loaded other : Book) → (history c.campaign other).journal ≡ (history c.campaign loaded).journal → IsInOrder c aim jobs loaded other

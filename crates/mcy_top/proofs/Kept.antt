@@ -1,48 +1,21 @@
 -- The work of a command that leaves the book as it is, or begins it, put together.
-use Rattle.std.proofs.Common.{◌≡◌, ◌≢◌, ◌⊎◌, inl, inr, arith, ℕ, ◌≤◌, Bool, List, [], ◌∷◌, length, refl, sym, ap, subst, ◌∙◌, Option, None, Some, Result, Ok, Err, OnErr, IsErrOf}
-use Rattle.mcy_keeper.specs.declared.book.Entry.{Entry}
-use Rattle.mcy_keeper.specs.declared.book.Book.{Book}
-use Rattle.mcy_keeper.specs.declared.keeper.KeepError.{KeepError}
-use Rattle.mcy_keeper.specs.declared.keeper.KeepError.TheVariants.{Fault as KeepFault, Memory as KeepMemory}
-use Rattle.mcy_keeper.specs.Books.{blank, IsBlank, IsSecond, Keeps, LeavesEither, LeavesNothingNew, LeavesOnly}
-use Rattle.result_book.specs.Rows.{groups, history, meta_in_second, IsWellFormed}
-use Rattle.result_book.proofs.Formats.{has_history}
-use Rattle.command_words.specs.declared.command.Command.{Command}
-use Rattle.command_words.specs.declared.command.Command.TheVariants.{Init, Run, List as Listing, Status, Source, Baseline, Demo}
-use Rattle.campaign_plan.specs.declared.prepared.Prepared.{Prepared}
-use Rattle.mcy_top.specs.declared.ending.Ending.{Ending}
-use Rattle.mcy_top.specs.declared.ending.Ending.TheVariants.{Written, Refused, NoMemory}
-use Rattle.mcy_top.specs.declared.refusal.BookRefusal.{BookRefusal}
-use Rattle.mcy_top.specs.declared.refusal.BookRefusal.TheVariants.{NoCampaign as RefusedNone, AlreadyBegun as RefusedBegun, BookBad as RefusedBook, NoMutation as RefusedMutation, Memory as RefusedMemory}
-use Rattle.campaign_outcomes.specs.declared.outcome.Outcome.{Outcome}
-use Rattle.campaign_outcomes.specs.declared.outcome.Outcome.TheVariants.{Done, NoCampaign, AlreadyBegun, BookBad, KeeperFault, WriteFault, Memory, NoMutation}
-use Rattle.mcy_top.specs.Commands.{slots_of, stop_of, OnlyReads, Runs}
-use Rattle.campaign_plan.specs.Campaigns.{IsPlan}
-use Rattle.campaign_run.specs.Rows.{IsBlankOrGood, IsGood, IsPrefix, IsWithinOne}
-use Rattle.campaign_run.specs.Changes.{Course, IsNear, opened}
-use Rattle.campaign_run.specs.Running.{book_of, IsWithin}
-use Rattle.result_book.specs.declared.goal.Goal.{Goal}
+use Rattle.mcy_top.proofs.Common.{◌≡◌, ◌≢◌, ◌⊎◌, inl, inr, arith, ℕ, ◌≤◌, Bool, List, [], ◌∷◌, length, refl, sym, ap, subst, ◌∙◌, Option, None, Some, Result, Ok, Err, OnErr, IsErrOf, Entry, Book}
+use Rattle.mcy_top.proofs.Common.{KeepError, KeepFault, KeepMemory, blank, IsBlank, IsSecond, Keeps, LeavesEither, LeavesNothingNew, LeavesOnly, groups, history, IsWellFormed, has_history, Command}
+use Rattle.mcy_top.proofs.Common.{Init, Run, Listing, Status, Source, Baseline, Demo, Prepared, Ending, Written, Refused, NoMemory, BookRefusal, RefusedNone, RefusedBegun, RefusedBook}
+use Rattle.mcy_top.proofs.Common.{RefusedMutation, Outcome, Done, NoCampaign, AlreadyBegun, BookBad, KeeperFault, WriteFault, Memory, NoMutation, slots_of, stop_of, OnlyReads, Runs, IsPlan}
+use Rattle.mcy_top.proofs.Common.{IsBlankOrGood, IsGood, IsPrefix, IsWithinOne, Course, IsNear, opened, book_of, IsWithin, Goal, answers_text, init_text, text_of, misses, misses_on, book_outcome}
+use Rattle.mcy_top.proofs.Common.{RefusesBook, done_outcome, ended_outcome, failed_outcome, Delivers, Answers, Carried, DidAll, GainsWanted, Grew, StartsFew, Takes, Work, Wrote, IsInOrder}
+use Rattle.mcy_top.proofs.Common.{either_books, only_books, book_second, plan_fit, plan_meta}
+use Rattle.mcy_top.specs.declared.refusal.BookRefusal.TheVariants.{Memory as RefusedMemory}
 use Rattle.mcy_top.proofs.Gaining.{gains_none, gains_opened}
 use Rattle.mcy_top.proofs.InOrder.{none_in_order}
-use Rattle.mcy_top.specs.Texts.{answers_text, init_text, text_of}
-use Rattle.mcy_top.specs.Requirements.{misses, misses_on}
-use Rattle.mcy_top.specs.Outcomes.{book_outcome}
-use Rattle.mcy_top.specs.BookRefusals.{RefusesBook}
-use Rattle.mcy_top.specs.Endings.{done_outcome, ended_outcome, failed_outcome, Delivers}
-use Rattle.mcy_top.specs.Life.{Answers, Carried, DidAll, GainsWanted, Grew, StartsFew, Takes, Work, Wrote}
-use Rattle.mcy_top.specs.ProgramOrder.{IsInOrder}
 use Rattle.mcy_top.proofs.Advancing.{good_rows, history_second, opened_form, within_itself}
 use Rattle.mcy_top.proofs.Doing.{all_answers, text_wrote}
-use Rattle.campaign_run.proofs.Crashes.{either_books, only_books}
-use Rattle.campaign_run.proofs.Growing.{book_second}
-use Rattle.campaign_plan.proofs.Plans.{plan_fit, plan_meta}
+use Rattle.mcy_top.proofs.Completing.{form_meta}
 
 -- a begun book has meta
 pub plan_begun : (c : Prepared) → IsPlan c → c.campaign.meta ≢ []
 plan_begun c plan none = let made = sym none ∙ plan_meta c plan in cc
-
-pub form_meta : (c : Prepared) (book : Book) → IsPlan c → IsWellFormed c.campaign book → book.meta ≢ []
-form_meta c book plan form none = plan_begun c plan (sym form.meta ∙ ap meta_in_second none)
 
 -- a crash leaves the sure book and nothing else
 pub grew_exact : (leaves : Option Book → Type 0) (command : Command) (aim : Goal) (c : Prepared) (loaded sure : Book) (changes : List Book) (outcome : Outcome) → Course c loaded changes sure → LeavesOnly leaves sure → IsPrefix loaded sure

@@ -1,3 +1,4 @@
+mod Common
 pub mod Counting
 pub mod Pairs
 pub mod PlanLaws
@@ -29,6 +30,9 @@ pub mod ShownExact
 pub mod BaselineEnds
 pub mod BaselineExact
 pub mod Living
+pub mod BookDesign
+pub mod PassRows
+pub mod Passing
 pub mod Upgrading
 pub mod Histories
 pub mod Limiting

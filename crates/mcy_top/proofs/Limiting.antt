@@ -1,30 +1,11 @@
 -- A command under the limit of cycles of its campaign, and its refusal by the baselines.
-use Rattle.std.proofs.Common.{◌≡◌, ◌⊎◌, false, ℕ, List, Option, None, Some, Result, refl, sym, subst}
-use Rattle.std.specs.Prelude.{IfErr, MatchOption, OnOk}
-use Rattle.std.proofs.lemmas.Result.{IfErr-weaker, on_ok_weaker}
-use Rattle.mcy_keeper.specs.declared.book.Book.{Book}
-use Rattle.mcy_keeper.specs.Books.{IsBlank, Keeps}
-use Rattle.result_book.specs.declared.goal.Goal.{Goal}
-use Rattle.result_book.specs.Rows.{IsWellFormed}
-use Rattle.command_words.specs.declared.command.Command.{Command}
-use Rattle.command_words.specs.declared.command.Command.TheVariants.{Init, Run, List as Listing, Status, Source, Baseline, Demo}
-use Rattle.campaign_plan.specs.declared.prepared.Prepared.{Prepared}
-use Rattle.campaign_plan.specs.Campaigns.{IsPlan}
-use Rattle.campaign_reading.specs.Files.{IsMade}
-use Rattle.mcy_outside.specs.Files.{Held}
+use Rattle.mcy_top.proofs.Common.{◌≡◌, ◌⊎◌, false, ℕ, List, Option, None, Some, Result, refl, sym, subst, IfErr, MatchOption, IfErr-weaker, on_ok_weaker, Book, IsBlank, Keeps, Goal, IsWellFormed}
+use Rattle.mcy_top.proofs.Common.{Command, Init, Run, Listing, Status, Source, Baseline, Demo, Prepared, IsPlan, IsMade, Held, FailsBaselines, HasItsLimit, IsLimitOf, Outcome, BaselineBad, Memory}
+use Rattle.mcy_top.proofs.Common.{BookRefusal, RefusedNone, RefusedBegun, RefusedBook, RefusedMutation, HasNamed, RefusesBook, Runs, Ends, Carried, Takes, Work, WorkUnder, IsLimitFor, IsUnfit, Opens}
+use Rattle.mcy_top.proofs.Common.{book_outcome}
+use Rattle.std.specs.Prelude.{OnOk}
 use Rattle.campaign_plan.proofs.Limits.{plan_limited, prepared_limited}
-use Rattle.campaign_run.specs.Limits.{FailsBaselines, HasItsLimit, IsLimitOf}
-use Rattle.campaign_outcomes.specs.declared.outcome.Outcome.{Outcome}
-use Rattle.campaign_outcomes.specs.declared.outcome.Outcome.TheVariants.{BaselineBad, Memory}
-use Rattle.mcy_top.specs.declared.refusal.BookRefusal.{BookRefusal}
-use Rattle.mcy_top.specs.declared.refusal.BookRefusal.TheVariants.{NoCampaign as RefusedNone, AlreadyBegun as RefusedBegun, BookBad as RefusedBook, NoMutation as RefusedMutation, Memory as NoMemory}
-use Rattle.mcy_top.specs.BookRefusals.{HasNamed, RefusesBook}
-use Rattle.mcy_top.specs.Commands.{Runs}
-use Rattle.mcy_top.specs.Endings.{Ends}
-use Rattle.mcy_top.specs.Life.{Carried, Takes, Work}
-use Rattle.mcy_top.specs.LimitedWork.{WorkUnder}
-use Rattle.mcy_top.specs.Limits.{IsLimitFor, IsUnfit, Opens}
-use Rattle.mcy_top.specs.Outcomes.{book_outcome}
+use Rattle.mcy_top.specs.declared.refusal.BookRefusal.TheVariants.{Memory as NoMemory}
 use Rattle.mcy_top.proofs.Kept.{work_kept}
 
 -- a run opens its campaign

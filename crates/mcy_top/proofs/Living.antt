@@ -1,27 +1,9 @@
 -- Lists of lives.
-use Rattle.std.proofs.Common.{◌≡◌, inl, inr, arith, ℕ, ◌+◌, ◌≤◌, Bool, List, [], ◌∷◌, ◌++◌, length, map, refl, sym, ap, subst, ◌∙◌, Option, Some}
-use Rattle.std.specs.List.{All, AllPairs}
-use Rattle.std.proofs.lemmas.List.Elements.{All-cons, All-nil, All-weaker}
-use Rattle.std.proofs.lemmas.List.Kept.{AllPairs-cons}
-use Rattle.mcy_keeper.specs.declared.book.Entry.{Entry}
-use Rattle.mcy_keeper.specs.declared.book.Book.{Book}
-use Rattle.std.proofs.lemmas.List.{map-append}
-use Rattle.mcy_keeper.specs.Books.{begins_with, first_number, is_first, with_entry, LeavesNothingNew}
-use Rattle.mcy_outside.specs.Files.{Held}
-use Rattle.campaign_plan.specs.declared.prepared.Prepared.{Prepared}
-use Rattle.campaign_outcomes.specs.declared.outcome.Outcome.{Outcome}
-use Rattle.campaign_plan.specs.Campaigns.{IsPlan}
-use Rattle.campaign_run.specs.Changes.{Course, IsChange, IsNear}
-use Rattle.result_book.specs.declared.campaign.Campaign.{Campaign}
-use Rattle.result_book.specs.Rows.{history, meta_in_second, second_row, AreRowsIn}
-use Rattle.result_book.proofs.Formats.{history_rows, seconds}
-use Rattle.result_book.proofs.Growing.{rows_first}
-use Rattle.campaign_run.specs.Rows.{AreRight, GoesOn, IsBlankOrGood, IsGood, IsPrefix, IsWithinOne}
-use Rattle.campaign_run.specs.Crashes.{LeavesBooks}
-use Rattle.mcy_top.specs.Life.{Life, Unloaded}
-use Rattle.mcy_top.specs.Lives.{books_of, AreSafe, HasFinalTexts, IsHistory, IsStart, Lived, RunsOnce}
+use Rattle.mcy_top.proofs.Common.{◌≡◌, inl, inr, arith, ℕ, ◌+◌, ◌≤◌, Bool, List, [], ◌∷◌, ◌++◌, length, map, refl, sym, ap, subst, ◌∙◌, Option, Some, All, AllPairs, All-cons, All-nil, All-weaker}
+use Rattle.mcy_top.proofs.Common.{AllPairs-cons, Entry, Book, map-append, begins_with, first_number, is_first, with_entry, LeavesNothingNew, Held, Prepared, Outcome, IsPlan, Course, IsChange, IsNear}
+use Rattle.mcy_top.proofs.Common.{Campaign, history, meta_in_second, second_row, AreRowsIn, history_rows, seconds, rows_first, AreRight, GoesOn, IsBlankOrGood, IsGood, IsPrefix, IsWithinOne}
+use Rattle.mcy_top.proofs.Common.{LeavesBooks, Life, Unloaded, books_of, AreSafe, HasFinalTexts, IsHistory, IsStart, Lived, RunsOnce, weaker_books}
 use Rattle.mcy_top.specs.Calls.{IsCovered, IsLived, IsSureBook}
-use Rattle.campaign_run.proofs.Crashes.{weaker_books}
 use Rattle.mcy_top.proofs.Advancing.{good_history, good_more, good_rows, history_first, opened_form, upgrade_is}
 use Rattle.mcy_top.proofs.Finishing.{final_is}
 use Rattle.mcy_top.proofs.Once.{right_of}

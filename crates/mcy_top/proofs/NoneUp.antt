@@ -1,25 +1,10 @@
 -- Where 3 ^ k is no more than the limit of the campaign, for the k free bits of its design, no pair is given up.
-use Rattle.std.proofs.Common.{◌≡◌, ◌≢◌, inl, inr, arith, ℕ, ◌<◌, ◌≤◌, ◌^◌, ◌==◌, ◌&&◌, not, Bool, true, false, List, [], ◌∷◌, ◌++◌, Option, None, Some, refl, sym, subst, ◌∙◌, append_assoc, if◌then◌else◌}
+use Rattle.mcy_top.proofs.Common.{◌≡◌, ◌≢◌, inl, inr, arith, ℕ, ◌<◌, ◌≤◌, ◌^◌, ◌==◌, ◌&&◌, not, Bool, true, false, List, [], ◌∷◌, ◌++◌, Option, None, Some, refl, sym, subst, ◌∙◌, append_assoc}
+use Rattle.mcy_top.proofs.Common.{if◌then◌else◌, Contains, eqb_tells, Contains-append_left, Contains-push, Entry, Book, first_bound, is_sim_test, AreRows, Prepared, Trial, Equality, Simulation}
+use Rattle.mcy_top.proofs.Common.{IsPlan, plan_kind, AreRight, IsGood, book_of, book_form, book_second, given_up, has_pair, is_equality, GivesNoneUp}
 use Rattle.std.specs.Prelude.{slice_get}
-use Rattle.std.specs.List.{Contains}
-use Rattle.std.proofs.lemmas.Bool.Decides.{eqb_tells}
-use Rattle.std.proofs.lemmas.List.Elements.{Contains-append_left, Contains-push}
-use Rattle.mcy_keeper.specs.declared.book.Entry.{Entry}
-use Rattle.mcy_keeper.specs.declared.book.Book.{Book}
 use Rattle.netlist_core.specs.Checked.{free_bits}
-use Rattle.result_book.specs.Campaigns.{first_bound, is_sim_test}
-use Rattle.result_book.specs.Rows.{AreRows}
-use Rattle.campaign_plan.specs.declared.prepared.Prepared.{Prepared}
-use Rattle.campaign_plan.specs.declared.trial.Trial.{Trial}
-use Rattle.campaign_plan.specs.declared.trial.Trial.TheVariants.{Equality, Simulation}
-use Rattle.campaign_plan.specs.Campaigns.{IsPlan}
-use Rattle.campaign_plan.proofs.Plans.{plan_kind}
-use Rattle.campaign_run.specs.Rows.{AreRight, IsGood}
-use Rattle.campaign_run.specs.Running.{book_of}
-use Rattle.campaign_run.proofs.Growing.{book_form, book_second}
 use Rattle.row_laws.proofs.Telling.{unknowns_long}
-use Rattle.mcy_top.specs.Defined.{given_up, has_pair, is_equality}
-use Rattle.mcy_top.specs.Shown.{GivesNoneUp}
 use Rattle.mcy_top.proofs.Advancing.{history_second}
 use Rattle.mcy_top.proofs.Finishing.{unknown_equality}
 use Rattle.mcy_top.proofs.Fresh.{AreNew}

@@ -1,29 +1,9 @@
 -- A project and its source have one campaign, and what a campaign defines is one.
-use Rattle.std.proofs.Common.{◌≡◌, ◌⊎◌, inl, inr, arith, ℕ, ◌+◌, Bool, true, false, MatchBool, ◌&&◌, List, [], ◌∷◌, ◌++◌, length, slice_get, Option, None, Some, refl, sym, ap, subst, ◌∙◌}
-use Rattle.mcy_keeper.specs.declared.book.Book.{Book}
-use Rattle.mcy_keeper.specs.declared.book.Entry.{Entry}
-use Rattle.tb_bench.specs.declared.parts.Parts.{Parts}
-use Rattle.mutation_sites.specs.declared.site.Site.{Site}
-use Rattle.campaign_plan.specs.declared.prepared.Prepared.{Prepared}
-use Rattle.tag_script.specs.declared.answer.Ask.{Ask}
-use Rattle.tag_script.specs.declared.answer.Ask.TheVariants.{Need}
-use Rattle.result_book.specs.declared.answer.Answer.{Answer}
-use Rattle.result_book.specs.Scripts.{ask, is_ended}
-use Rattle.campaign_plan.specs.Campaigns.{IsPlan}
-use Rattle.campaign_plan.specs.Laws.{IsSame, SameTests}
-use Rattle.campaign_plan.proofs.OneCampaign.{plan_once}
-use Rattle.result_book.specs.declared.campaign.Campaign.{Campaign}
-use Rattle.result_book.specs.Rows.{groups, history, IsWellFormed}
-use Rattle.campaign_run.specs.Rows.{AreRight, IsBlankOrGood, IsGivenUpAt, IsRightWord, IsSaid, IsTrueWord, IsTrueWordAt}
-use Rattle.command_words.specs.declared.command.Command.{Command}
-use Rattle.mcy_top.specs.Texts.{answers_text, text_of}
-use Rattle.mcy_top.specs.Requirements.{misses, misses_on}
-use Rattle.campaign_plan.specs.declared.trial.Trial.{Trial}
-use Rattle.campaign_plan.specs.declared.trial.Trial.TheVariants.{Equality, Simulation}
-use Rattle.campaign_baseline.proofs.Limiting.{limit_once}
-use Rattle.campaign_run.specs.Simulated.{IsSimulated}
+use Rattle.mcy_top.proofs.Common.{◌≡◌, ◌⊎◌, inl, inr, arith, ℕ, ◌+◌, Bool, true, false, MatchBool, ◌&&◌, List, [], ◌∷◌, ◌++◌, length, slice_get, Option, None, Some, refl, sym, ap, subst, ◌∙◌, Book}
+use Rattle.mcy_top.proofs.Common.{Entry, Parts, Site, Prepared, Ask, Need, Answer, ask, is_ended, IsPlan, IsSame, SameTests, plan_once, Campaign, groups, history, IsWellFormed, AreRight}
+use Rattle.mcy_top.proofs.Common.{IsBlankOrGood, IsGivenUpAt, IsRightWord, IsSaid, IsTrueWord, IsTrueWordAt, Command, answers_text, text_of, misses, misses_on, Trial, Equality, Simulation, limit_once}
+use Rattle.mcy_top.proofs.Common.{IsSimulated, given_up, is_equality, is_given_up, AreAllAnswers, AreAnswers, IsFinalText, IsWordOf, Pair}
 use Rattle.mcy_top.proofs.Simulating.{BenchesSayOnce}
-use Rattle.mcy_top.specs.Defined.{given_up, is_equality, is_given_up, AreAllAnswers, AreAnswers, IsFinalText, IsWordOf, Pair}
 use Rattle.mcy_top.specs.Once.{GaveUpSame, IsEnded, SayTheSame}
 use Rattle.mcy_top.proofs.Finishing.{final_is, groups_are}
 

@@ -1,19 +1,11 @@
 -- A book is refused for one fault.
-use Rattle.std.proofs.Common.{◌≡◌, ◌≢◌, inl, inr, arith, ℕ, zero, suc, ◌<◌, Bool, List, [], ◌∷◌, ◌++◌, length, drop, take, slice_get, Option, Some, refl, sym, ap, subst, ◌∙◌, append_assoc}
-use Rattle.std.proofs.lemmas.List.{append-nil}
-use Rattle.mcy_keeper.specs.declared.book.Entry.{Entry}
-use Rattle.mcy_keeper.specs.declared.book.Book.{Book}
-use Rattle.mcy_keeper.specs.Books.{is_first}
-use Rattle.result_book.specs.declared.campaign.Campaign.{Campaign}
+use Rattle.mcy_top.proofs.Common.{◌≡◌, ◌≢◌, inl, inr, arith, ℕ, zero, suc, ◌<◌, Bool, List, [], ◌∷◌, ◌++◌, length, drop, take, slice_get, Option, Some, refl, sym, ap, subst, ◌∙◌, append_assoc}
+use Rattle.mcy_top.proofs.Common.{append-nil, Entry, Book, is_first, Campaign, BookError, Meta, Mutation, Row, Stray, mark_of, tags_of, ask_on, meta_in_second, AreRowsIn, IsRowIn, not_both}
 use Rattle.result_book.specs.declared.check.RowFault.{RowFault}
 use Rattle.result_book.specs.declared.check.RowFault.TheVariants.{Seq, NoMutation, NoTest, Twice, NotAsked, BadWord, Mark, Tags, Bound}
-use Rattle.result_book.specs.declared.check.BookError.{BookError}
-use Rattle.result_book.specs.declared.check.BookError.TheVariants.{Meta, Mutation, Row, Stray, Memory}
-use Rattle.result_book.specs.Scripts.{mark_of, tags_of}
+use Rattle.result_book.specs.declared.check.BookError.TheVariants.{Memory}
 use Rattle.result_book.specs.Campaigns.{IsWordOf}
-use Rattle.result_book.specs.Rows.{ask_on, meta_in_second, AreRowsIn, IsRowIn}
 use Rattle.result_book.specs.BookFaults.{DifferFirst, IsAsked, IsAskedOn, IsBoundFault, IsFirstFault, IsOnce, IsPlaced, IsRefused, IsRowFault}
-use Rattle.result_book.proofs.Pairs.{not_both}
 use Rattle.result_book.proofs.Refusals.{faulty, twice_once}
 
 -- Lists differ first at one place.

@@ -1,24 +1,12 @@
 -- Pairs of a mutation and a test among rows: a pair has a further row only where each row before gave it up under less, and it is given
 -- up just where its last word is UNKNOWN.
-use Rattle.std.proofs.Common.{◌≡◌, ◌⊎◌, arith, ℕ, ◌<◌, Bool, true, false, ◌==◌, inl, inr, List, [], ◌∷◌, ◌++◌, Option, None, Some, refl, sym, ap, subst, ◌∙◌}
-use Rattle.std.specs.Prelude.{is_some, IsSomeAnd}
-use Rattle.std.specs.Option.{option_or}
-use Rattle.std.specs.List.{All, AllPairs, Any, Contains}
-use Rattle.std.proofs.lemmas.Bool.Decides.{eqb_tells}
-use Rattle.std.proofs.lemmas.List.Elements.{All-cons, All-nil, Contains-append_left, Contains-push, Contains-push_cases}
-use Rattle.std.proofs.lemmas.List.Kept.{AllPairs-cons}
-use Rattle.mcy_keeper.specs.declared.book.Entry.{Entry}
-use Rattle.result_book.specs.declared.campaign.Campaign.{Campaign}
+use Rattle.mcy_top.proofs.Common.{◌≡◌, ◌⊎◌, arith, ℕ, ◌<◌, Bool, true, false, ◌==◌, inl, inr, List, [], ◌∷◌, ◌++◌, Option, None, Some, refl, sym, ap, subst, ◌∙◌, is_some, option_or, All, AllPairs}
+use Rattle.mcy_top.proofs.Common.{Any, Contains, eqb_tells, All-cons, All-nil, Contains-append_left, Contains-push, Contains-push_cases, AllPairs-cons, Entry, Campaign, Answer, word_code, word_in}
+use Rattle.mcy_top.proofs.Common.{answer_of, answers_of, bound_in, AreRowsIn, IsGivenUp, IsPair, IsRowIn, not_both, word_in-other, word_in-same, given_up, has_pair, is_given_up, IsAgain}
+use Rattle.std.specs.Prelude.{IsSomeAnd}
 use Rattle.result_book.specs.declared.script.TestWord.TheVariants.{Unknown}
-use Rattle.result_book.specs.declared.answer.Answer.{Answer}
-use Rattle.result_book.specs.Scripts.{word_code, word_in}
-use Rattle.result_book.specs.Rows.{answer_of, answers_of, bound_in, AreRowsIn, IsGivenUp, IsPair, IsRowIn}
 use Rattle.result_book.proofs.Following.{row_again}
 use Rattle.result_book.proofs.Grouping.{answers_of-other, answers_of-same, bound_in-other, bound_in-same, pair_no, pair_yes}
-use Rattle.result_book.proofs.Pairs.{not_both}
-use Rattle.result_book.proofs.Words.{word_in-other, word_in-same}
-use Rattle.mcy_top.specs.Defined.{given_up, has_pair, is_given_up}
-use Rattle.mcy_top.specs.Lives.{IsAgain}
 
 decide_pair : (m t : ℕ) (e : Entry) → IsPair m t e ⊎ (¬ IsPair m t e)
 decide_pair m t e = elim (eqb_tells e.mutation m) [

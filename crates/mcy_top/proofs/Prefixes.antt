@@ -1,16 +1,7 @@
 -- First parts of books, as they stand or as their upgrades do.
-use Rattle.std.proofs.Common.{◌≡◌, inl, inr, arith, ℕ, suc, ◌+◌, ◌≤◌, false, true, List, [], ◌∷◌, ◌++◌, length, refl, sym, ap, subst, ◌∙◌, append_assoc, length-append}
-use Rattle.std.proofs.lemmas.List.{append-nil}
-use Rattle.mcy_keeper.specs.declared.book.Entry.{Entry}
-use Rattle.mcy_keeper.specs.declared.book.Book.{Book}
-use Rattle.mcy_keeper.specs.Books.{in_second, with_bounds, IsBlank, IsFirst, IsSecond}
+use Rattle.mcy_top.proofs.Common.{◌≡◌, inl, inr, arith, ℕ, suc, ◌+◌, ◌≤◌, false, true, List, [], ◌∷◌, ◌++◌, length, refl, sym, ap, subst, ◌∙◌, append_assoc, length-append, append-nil, Entry, Book}
+use Rattle.mcy_top.proofs.Common.{in_second, with_bounds, IsBlank, IsFirst, IsSecond, Campaign, bounds_of, second_row, upgrade_of, Prepared, plan_once, plan_fit, GoesOn, IsPrefix, IsUpgrade, Stands}
 use Rattle.campaign_run.proofs.Formats.{not_first}
-use Rattle.result_book.specs.declared.campaign.Campaign.{Campaign}
-use Rattle.result_book.specs.Rows.{bounds_of, second_row, upgrade_of}
-use Rattle.campaign_plan.specs.declared.prepared.Prepared.{Prepared}
-use Rattle.campaign_plan.proofs.OneCampaign.{plan_once}
-use Rattle.campaign_plan.proofs.Plans.{plan_fit}
-use Rattle.campaign_run.specs.Rows.{GoesOn, IsPrefix, IsUpgrade, Stands}
 
 pub on_itself : (book : Book) → GoesOn book book
 on_itself book = record { meta = refl; mutations = refl; more = []; rows = sym (append-nil book.journal) }

@@ -1,33 +1,9 @@
 -- A run as a whole.
-use Rattle.std.proofs.Common.{◌≡◌, ◌∙◌, arith, ℕ, ◌+◌, false, List, length, Option, None, refl, sym, ap, subst}
-use Rattle.std.proofs.lemmas.List.{length-replicate}
-use Rattle.mcy_keeper.specs.declared.book.Entry.{Entry}
-use Rattle.mcy_keeper.specs.declared.book.Book.{Book}
-use Rattle.mcy_keeper.specs.declared.keeper.KeepError.TheVariants.{Fault as KeepFault, Memory as KeepMemory}
-use Rattle.mcy_keeper.specs.Books.{Keeps}
-use Rattle.result_book.specs.declared.campaign.Campaign.{Campaign}
-use Rattle.result_book.specs.declared.goal.Goal.{Goal}
-use Rattle.result_book.specs.Goals.{IsGoal}
-use Rattle.result_book.specs.Rows.{IsWellFormed}
-use Rattle.result_book.specs.States.{IsStateOf, Progress}
-use Rattle.source_report.specs.Texts.{status_text}
-use Rattle.command_words.specs.declared.command.Command.TheVariants.{Run}
+use Rattle.mcy_top.proofs.Common.{◌≡◌, ◌∙◌, arith, ℕ, ◌+◌, false, List, length, Option, None, refl, sym, ap, subst, length-replicate, Entry, Book, KeepFault, KeepMemory, Keeps, Campaign, Goal, IsGoal}
+use Rattle.mcy_top.proofs.Common.{IsWellFormed, IsStateOf, Progress, status_text, Run, core_book, HasFree, CoreRan, CoreTorn, GivesTheSame, Turns, begun, IsUnderWay, Prepared, IsPlan, book_of, Ran}
+use Rattle.mcy_top.proofs.Common.{book_form, ran_none, may_give, most_of, Ending, HasNamed, broken_outcome, ended_outcome, run_outcome, Delivers, StartsFew, Work, IsInOrder}
 use Rattle.campaign_core.specs.declared.event.CoreError.{CoreError}
 use Rattle.campaign_core.specs.declared.event.CoreError.TheVariants.{Keeper as CoreFault, Memory as CoreMemory}
-use Rattle.campaign_core.specs.Running.{book_of as core_book, HasFree, Ran as CoreRan, Torn as CoreTorn}
-use Rattle.campaign_core.specs.Testers.{GivesTheSame}
-use Rattle.campaign_core.specs.Turns.{Turns}
-use Rattle.campaign_core.specs.UnderWay.{begun, IsUnderWay}
-use Rattle.campaign_plan.specs.declared.prepared.Prepared.{Prepared}
-use Rattle.campaign_plan.specs.Campaigns.{IsPlan}
-use Rattle.campaign_run.specs.Running.{book_of, Ran}
-use Rattle.campaign_run.proofs.Growing.{book_form, ran_none}
-use Rattle.project_tester.specs.ProjectJobs.{may_give, most_of}
-use Rattle.mcy_top.specs.declared.ending.Ending.{Ending}
-use Rattle.mcy_top.specs.BookRefusals.{HasNamed}
-use Rattle.mcy_top.specs.Endings.{broken_outcome, ended_outcome, run_outcome, Delivers}
-use Rattle.mcy_top.specs.Life.{StartsFew, Work}
-use Rattle.mcy_top.specs.ProgramOrder.{IsInOrder}
 use Rattle.mcy_top.proofs.Torn.{order_of, tears_of, Tears}
 use Rattle.mcy_top.proofs.Turning.{counts_of, few_of, program_on, went_of, On}
 use Rattle.mcy_top.proofs.Working.{work_broke, work_ran, Counts, Went}

@@ -1,26 +1,7 @@
 -- What a demo does, from what its run does with a book of its own.
-use Rattle.std.proofs.Common.{◌≡◌, ◌⊎◌, inl, inr, arith, ℕ, ◌+◌, ◌≤◌, Bool, true, false, List, [], ◌∷◌, ◌++◌, length, refl, sym, ap, subst, ◌∙◌, Option, None, Some}
-use Rattle.mcy_keeper.specs.declared.book.Entry.{Entry}
-use Rattle.mcy_keeper.specs.declared.book.Book.{Book}
-use Rattle.mcy_keeper.specs.Books.{blank, is_first, with_entry, IsBlank, IsFirst}
-use Rattle.result_book.specs.Rows.{groups, AreRows, AreRowsIn, IsFinished, IsWellFormed}
-use Rattle.result_book.proofs.Formats.{second_is_not_first}
-use Rattle.source_report.specs.Texts.{lines}
-use Rattle.result_book.specs.declared.goal.Goal.{Goal}
-use Rattle.campaign_plan.specs.declared.prepared.Prepared.{Prepared}
-use Rattle.campaign_plan.specs.Campaigns.{IsPlan}
-use Rattle.campaign_plan.proofs.Plans.{plan_fit}
-use Rattle.campaign_run.specs.Changes.{Course, IsChange}
-use Rattle.campaign_run.specs.Rows.{AreRight, IsNextRow}
-use Rattle.campaign_run.specs.Running.{book_of, AreWanted}
-use Rattle.campaign_run.proofs.Growing.{book_second, form_more, right_more}
-use Rattle.campaign_outcomes.specs.declared.outcome.Outcome.{Outcome}
-use Rattle.campaign_outcomes.specs.declared.outcome.Outcome.TheVariants.{Done}
-use Rattle.command_words.specs.declared.command.Command.TheVariants.{Run}
-use Rattle.mcy_top.specs.Commands.{run_goal}
-use Rattle.mcy_top.specs.Defined.{given_up}
-use Rattle.mcy_top.specs.Life.{wanting, Work}
-use Rattle.mcy_top.specs.Shown.{tests_in, RanPart, RanWhole}
+use Rattle.mcy_top.proofs.Common.{◌≡◌, ◌⊎◌, inl, inr, arith, ℕ, ◌+◌, ◌≤◌, Bool, true, false, List, [], ◌∷◌, ◌++◌, length, refl, sym, ap, subst, ◌∙◌, Option, None, Some, Entry, Book, blank, is_first}
+use Rattle.mcy_top.proofs.Common.{with_entry, IsBlank, IsFirst, groups, AreRows, AreRowsIn, IsFinished, IsWellFormed, second_is_not_first, lines, Goal, Prepared, IsPlan, plan_fit, Course, IsChange}
+use Rattle.mcy_top.proofs.Common.{AreRight, IsNextRow, book_of, AreWanted, book_second, form_more, right_more, Outcome, Done, Run, run_goal, given_up, wanting, Work, tests_in, RanPart, RanWhole}
 use Rattle.mcy_top.proofs.Advancing.{history_second, opened_form}
 use Rattle.mcy_top.proofs.Aiming.{in_all, none_again}
 use Rattle.mcy_top.proofs.Defining.{all_mutations}
@@ -28,7 +9,7 @@ use Rattle.mcy_top.proofs.Finishing.{groups_are}
 use Rattle.mcy_top.proofs.Fresh.{new_rows, rows_counted, AreNew}
 use Rattle.mcy_top.proofs.NoneUp.{none_up}
 use Rattle.mcy_top.proofs.Simulating.{BenchesSayOnce}
-use Rattle.mcy_top.proofs.Kept.{form_meta}
+use Rattle.mcy_top.proofs.Completing.{form_meta}
 
 -- The book is empty, or the campaign's with right rows.
 record IsOwned (c : Prepared) (book : Book) : Type 0 where

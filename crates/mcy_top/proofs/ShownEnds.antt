@@ -1,22 +1,7 @@
 -- How a demo ends.
-use Rattle.std.proofs.Common.{◌≡◌, inl, inr, ℕ, List, refl, sym, subst, Option, Some}
-use Rattle.mcy_base.specs.Causes.{Rose}
-use Rattle.mcy_keeper.specs.declared.book.Book.{Book}
-use Rattle.mcy_keeper.specs.Books.{blank, Keeps}
-use Rattle.campaign_plan.specs.declared.prepared.Prepared.{Prepared}
-use Rattle.campaign_plan.specs.Campaigns.{IsPlan}
-use Rattle.campaign_reading.specs.declared.refusal.Refusal.{Refusal}
-use Rattle.campaign_reading.specs.declared.refusal.Refusal.TheVariants.{ProjectBad as RefusedProject, ScriptBad as RefusedScript, SourceBad as RefusedSource, Memory as NoMemoryThere}
-use Rattle.campaign_reading.specs.Reads.{IsUnmade}
-use Rattle.campaign_outcomes.specs.declared.outcome.Outcome.TheVariants.{Done}
-use Rattle.made_project.specs.Summaries.{summary_text}
-use Rattle.made_campaign.specs.Made.{made_held, made_limit, IsOfTexts}
-use Rattle.mcy_top.specs.declared.ending.Ending.{Ending}
-use Rattle.mcy_top.specs.declared.ending.Ending.TheVariants.{Written, Refused, NoMemory}
-use Rattle.mcy_top.specs.Endings.{ended_outcome, Delivers}
-use Rattle.mcy_top.specs.Life.{HasCause, IsQuiet}
-use Rattle.mcy_top.specs.Outcomes.{outcome_of}
-use Rattle.mcy_top.specs.Shown.{IsMadeOf, IsSummary, RanPart, RanWhole, Shown}
+use Rattle.mcy_top.proofs.Common.{◌≡◌, inl, inr, ℕ, List, refl, sym, subst, Option, Some, Rose, Book, blank, Keeps, Prepared, IsPlan, Refusal, RefusedProject, RefusedScript, RefusedSource}
+use Rattle.mcy_top.proofs.Common.{NoMemoryThere, IsUnmade, Done, summary_text, made_held, made_limit, IsOfTexts, Ending, Written, Refused, NoMemory, ended_outcome, Delivers, HasCause, IsQuiet}
+use Rattle.mcy_top.proofs.Common.{outcome_of, IsMadeOf, IsSummary, RanPart, RanWhole, Shown}
 
 -- the campaign of a made project is one of some project
 pub made_plan : (seed cells : ℕ) (c : Prepared) → IsMadeOf seed cells c → IsPlan c

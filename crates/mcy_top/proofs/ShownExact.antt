@@ -1,15 +1,6 @@
 -- A demo is refused just where its texts are, and completes where they make a campaign.
-use Rattle.std.proofs.Common.{◌≡◌, ◌≢◌, ◌⊎◌, inl, inr, refl, ap, Some}
-use Rattle.campaign_plan.specs.declared.prepared.Prepared.{Prepared}
-use Rattle.campaign_reading.specs.declared.refusal.Refusal.{Refusal}
-use Rattle.campaign_reading.specs.declared.refusal.Refusal.TheVariants.{ProjectBad as RefusedProject, ScriptBad as RefusedScript, SourceBad as RefusedSource}
-use Rattle.campaign_reading.specs.Reads.{IsUnmade}
-use Rattle.campaign_outcomes.specs.declared.outcome.Outcome.{Outcome}
-use Rattle.campaign_outcomes.specs.declared.outcome.Outcome.TheVariants.{Done, ProjectBad, ScriptBad, SourceBad, WriteFault, Memory}
-use Rattle.made_campaign.specs.Made.{made_held}
-use Rattle.mcy_top.specs.Exact.{IsCutShort}
-use Rattle.mcy_top.specs.Outcomes.{outcome_of}
-use Rattle.mcy_top.specs.Shown.{IsMadeOf, Shown}
+use Rattle.mcy_top.proofs.Common.{◌≡◌, ◌≢◌, ◌⊎◌, inl, inr, refl, ap, Some, Prepared, Refusal, RefusedProject, RefusedScript, RefusedSource, IsUnmade, Outcome, Done, ProjectBad, ScriptBad, SourceBad}
+use Rattle.mcy_top.proofs.Common.{WriteFault, Memory, made_held, IsCutShort, outcome_of, IsMadeOf, Shown}
 use Rattle.mcy_top.specs.ShownLaws.{DemoRefusalsAreExact, DemosComplete}
 use Rattle.mcy_top.proofs.Exacting.{refused_not_made, refused_once}
 

@@ -1,12 +1,9 @@
 -- A bench says one word of a mutation, whichever netlist that runs as its mutant was simulated.
-use Rattle.std.proofs.Common.{◌≡◌, ℕ, List, sym, ap, subst, ◌∙◌}
+use Rattle.mcy_top.proofs.Common.{◌≡◌, ℕ, List, sym, ap, subst, ◌∙◌, Site, Parts, AreAlike, BaselinesAreOne, told_verdict, IsSimulated}
 use Rattle.netlist_core.specs.declared.raw.RawNetlist.{RawNetlist}
-use Rattle.mutation_sites.specs.declared.site.Site.{Site}
 use Rattle.vlog_syntax.specs.declared.stmt.Stmt.{Stmt}
 use Rattle.tb_machine.specs.Nodes.{tree_of}
 use Rattle.tb_machine.specs.Phases.{Setting, State}
-use Rattle.tb_bench.specs.declared.parts.Parts.{Parts}
-use Rattle.campaign_plan.specs.Laws.{AreAlike}
 use Rattle.tb_machine.specs.Simulations.{Outcome, phases_of}
 use Rattle.tb_turns.specs.Verdicts.{IsVerdict, IsWord}
 use Rattle.tb_bench.specs.Settings.{setting_of, start_of}
@@ -14,10 +11,9 @@ use Rattle.tb_process.specs.Running.{generator}
 use Rattle.tb_once.specs.Laws.{BenchesHaveOneOutcome, SettingsByDesign, StartsByRegisters}
 use Rattle.sim_words.specs.SimWords.{IsMutant, RunsDesigns, SimBench}
 use Rattle.sim_words.specs.Laws.{MutantsTellTheSame}
-use Rattle.campaign_baseline.specs.Laws.{BaselinesAreOne}
-use Rattle.campaign_baseline.proofs.Words.{word_once}
 use Rattle.campaign_run.specs.GivenUp.{IsMutantAt}
-use Rattle.campaign_run.specs.Simulated.{told_verdict, IsSimulated, Run}
+use Rattle.campaign_run.specs.Simulated.{Run}
+use Rattle.tb_turns.proofs.Words.{one_word}
 
 mutant_of : (netlist mutated : RawNetlist) (site : Site) → IsMutantAt netlist mutated site → IsMutant netlist site mutated
 mutant_of netlist mutated site broken = record { alike = broken.runs; each_run = broken.each_run; widths = broken.names.widths; starts = broken.names.starts }
@@ -50,7 +46,7 @@ alike_say_once outcomes settings starts same netlist site a b seed cycles pass f
     subst (λ (s : State). IsVerdict there s cycles pass fail h.verdict) (alike.starts k.mutated.raw (generator seed)) (subst (λ (s : Setting). IsVerdict s start cycles pass fail h.verdict) (alike.settings k.mutated.raw) by_a) in
     let said : IsVerdict there beginning cycles pass fail k.verdict = k.says alike.others alike.other_code in
     let outcome : moved.outcome ≡ said.outcome = outcomes b (tree_of alike.others) k.mutated (generator seed) (phases_of cycles) moved.outcome said.outcome k.runnable k.sound k.fits moved.simulated said.simulated in
-    let verdict : h.verdict ≡ k.verdict = word_once said.outcome pass fail h.verdict k.verdict (subst (λ (o : Outcome). IsWord o pass fail h.verdict) outcome moved.word) said.word in
+    let verdict : h.verdict ≡ k.verdict = one_word said.outcome pass fail h.verdict k.verdict (subst (λ (o : Outcome). IsWord o pass fail h.verdict) outcome moved.word) said.word in
     h.word_is ∙ ap told_verdict verdict ∙ sym k.word_is
 
 -- And so do the benches of a project, under its limit of cycles, which is one.

@@ -1,33 +1,10 @@
 -- The order of the rows of a run, and what a run leaves that broke off.
-use Rattle.std.proofs.Common.{◌≡◌, ◌∙◌, ◌⊎◌, inl, inr, arith, ℕ, ◌+◌, ◌≤◌, false, List, [], ◌∷◌, ◌++◌, length, Option, None, Some, IsSomeAnd, refl, sym, ap, subst}
-use Rattle.std.specs.Prelude.{slice_set}
-use Rattle.mcy_keeper.specs.declared.book.Entry.{Entry}
-use Rattle.mcy_keeper.specs.declared.book.Book.{Book}
-use Rattle.mcy_keeper.specs.Books.{with_entry}
-use Rattle.result_book.specs.declared.campaign.Campaign.{Campaign}
-use Rattle.result_book.specs.declared.goal.Goal.{Goal}
-use Rattle.result_book.specs.Rows.{answers_of, ask_on, bounds_on, history, AreRows}
-use Rattle.result_book.specs.Scripts.{each_from, words_of}
-use Rattle.result_book.specs.States.{IsStateOf, Progress}
-use Rattle.result_book.proofs.Growing.{rows_more}
-use Rattle.campaign_core.specs.declared.event.Event.{Event}
-use Rattle.campaign_core.specs.declared.event.Event.TheVariants.{Commit}
+use Rattle.mcy_top.proofs.Common.{◌≡◌, ◌∙◌, ◌⊎◌, inl, inr, arith, ℕ, ◌+◌, ◌≤◌, false, List, [], ◌∷◌, ◌++◌, length, Option, None, Some, IsSomeAnd, refl, sym, ap, subst, slice_set, Entry, Book}
+use Rattle.mcy_top.proofs.Common.{with_entry, Campaign, Goal, answers_of, ask_on, bounds_on, history, AreRows, each_from, words_of, IsStateOf, Progress, rows_more, Event, Commit, Program, next_event}
+use Rattle.mcy_top.proofs.Common.{core_book, IsWithinRows, CoreLeaves, CoreTorn, Turns, begun, Prepared, IsPlan, LeavesBooks, IsNextRow, book_of, Broke, LeavesNext, book_second, may_give, most_of}
+use Rattle.mcy_top.proofs.Common.{wanting, IsInOrder}
 use Rattle.campaign_core.specs.Events.{slot_after, IsRowOf, Takes}
-use Rattle.campaign_core.specs.Laws.{Program}
-use Rattle.campaign_core.specs.Orders.{next_event}
-use Rattle.campaign_core.specs.Running.{book_of as core_book, IsWithin as IsWithinRows, LeavesNext as CoreLeaves, Torn as CoreTorn}
-use Rattle.campaign_core.specs.Turns.{Turns}
-use Rattle.campaign_core.specs.UnderWay.{begun}
 use Rattle.campaign_core.proofs.Runs.{program_more}
-use Rattle.campaign_plan.specs.declared.prepared.Prepared.{Prepared}
-use Rattle.campaign_plan.specs.Campaigns.{IsPlan}
-use Rattle.campaign_run.specs.Crashes.{LeavesBooks}
-use Rattle.campaign_run.specs.Rows.{IsNextRow}
-use Rattle.campaign_run.specs.Running.{book_of, Broke, LeavesNext}
-use Rattle.campaign_run.proofs.Growing.{book_second}
-use Rattle.project_tester.specs.ProjectJobs.{may_give, most_of}
-use Rattle.mcy_top.specs.Life.{wanting}
-use Rattle.mcy_top.specs.ProgramOrder.{IsInOrder}
 use Rattle.mcy_top.proofs.Advancing.{history_second}
 use Rattle.mcy_top.proofs.Turning.{counts_of, next_row, program_on, within, On}
 use Rattle.mcy_top.proofs.Working.{Counts}

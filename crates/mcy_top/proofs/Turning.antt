@@ -1,34 +1,15 @@
 -- What a program's run over a core adds to the campaign's book.
-use Rattle.std.proofs.Common.{◌≡◌, ◌∙◌, ◌⊎◌, inl, inr, arith, ℕ, suc, ◌+◌, ◌≤◌, true, false, List, [], ◌∷◌, ◌++◌, length, Option, None, Some, MatchOption, refl, sym, ap, subst}
-use Rattle.std.specs.Prelude.{is_some, ⊤}
+use Rattle.mcy_top.proofs.Common.{◌≡◌, ◌∙◌, ◌⊎◌, inl, inr, arith, ℕ, suc, ◌+◌, ◌≤◌, true, false, List, [], ◌∷◌, ◌++◌, length, Option, None, Some, refl, sym, ap, subst, is_some, ⊤, Entry, Campaign}
+use Rattle.mcy_top.proofs.Common.{Goal, Want, IsGoal, wanted, AreRows, IsRow, Event, Start, Turn, Commit, Stop, Program, NoneWanted, HasFree, IsWithinRows, CoreRan, ReachedRows, Asked, GivesTheSame}
+use Rattle.mcy_top.proofs.Common.{Busy, busy_count, IsIn, Turns, IsBusy, IsUnderWay, Prepared, IsPlan, IsNextRow, book_of, IsWanted, IsWithin, Ran, Reached, WantsNone, book_form, length_more}
+use Rattle.mcy_top.proofs.Common.{next_row_of, ran_more, may_give, most_of, HasNamed, StartsFew}
+use Rattle.std.proofs.Common.{MatchOption}
 use Rattle.std.proofs.lemmas.List.Sums.{count_by-le-length}
-use Rattle.mcy_keeper.specs.declared.book.Entry.{Entry}
-use Rattle.result_book.specs.declared.campaign.Campaign.{Campaign}
-use Rattle.result_book.specs.declared.goal.Goal.{Goal}
-use Rattle.result_book.specs.declared.goal.Want.{Want}
 use Rattle.result_book.specs.Campaigns.{IsWordOf}
-use Rattle.result_book.specs.Goals.{IsGoal, wanted}
-use Rattle.result_book.specs.Rows.{AreRows, IsRow}
-use Rattle.campaign_core.specs.declared.event.Event.{Event}
-use Rattle.campaign_core.specs.declared.event.Event.TheVariants.{Start, Turn, Commit, Stop}
 use Rattle.campaign_core.specs.Events.{IsRowOf, Takes}
-use Rattle.campaign_core.specs.Laws.{Program}
-use Rattle.campaign_core.specs.Orders.{WantsNone as NoneWanted}
-use Rattle.campaign_core.specs.Running.{HasFree, IsWithin as IsWithinRows, Ran as CoreRan, Reached as ReachedRows}
-use Rattle.campaign_core.specs.Testers.{Asked, GivesTheSame}
-use Rattle.campaign_core.specs.Turns.{Busy, busy_count, IsIn, Turns}
-use Rattle.campaign_core.specs.UnderWay.{IsBusy, IsUnderWay}
 use Rattle.campaign_core.proofs.Nexts.{next_allowed}
 use Rattle.campaign_core.proofs.Orderly.{takes_order}
 use Rattle.campaign_core.proofs.SlotLemmas.{count_first, length_set}
-use Rattle.campaign_plan.specs.declared.prepared.Prepared.{Prepared}
-use Rattle.campaign_plan.specs.Campaigns.{IsPlan}
-use Rattle.campaign_run.specs.Rows.{IsNextRow}
-use Rattle.campaign_run.specs.Running.{book_of, IsWanted, IsWithin, Ran, Reached, WantsNone}
-use Rattle.campaign_run.proofs.Growing.{book_form, length_more, next_row_of, ran_more}
-use Rattle.project_tester.specs.ProjectJobs.{may_give, most_of}
-use Rattle.mcy_top.specs.BookRefusals.{HasNamed}
-use Rattle.mcy_top.specs.Life.{StartsFew}
 use Rattle.mcy_top.proofs.Busy.{busy_wanted}
 use Rattle.mcy_top.proofs.Working.{Counts, Went}
 

@@ -1,35 +1,17 @@
 -- A run that moves the campaign's book to the second format.
-use Rattle.std.proofs.Common.{◌≡◌, ◌⊎◌, inl, inr, arith, ℕ, ◌+◌, Bool, true, false, List, [], ◌∷◌, ◌++◌, length, refl, sym, ap, subst, ◌∙◌, Option, Result, Ok, Err, OnErr, OnOk, IsErrOf}
-use Rattle.mcy_keeper.specs.declared.book.Entry.{Entry}
-use Rattle.mcy_keeper.specs.declared.book.Book.{Book}
-use Rattle.mcy_keeper.specs.declared.keeper.KeepError.{KeepError}
-use Rattle.mcy_keeper.specs.declared.keeper.KeepError.TheVariants.{Fault as KeepFault, Memory as KeepMemory}
-use Rattle.mcy_keeper.specs.Books.{is_first, upgraded, IsBlank, IsFirst, Keeps, LeavesEither, LeavesNothingNew}
-use Rattle.result_book.specs.Rows.{bounds_of, history, IsWellFormed}
-use Rattle.result_book.proofs.Formats.{has_history, history_meta, history_mutations}
-use Rattle.command_words.specs.declared.command.Command.TheVariants.{Init, Run}
-use Rattle.result_book.specs.declared.goal.Goal.{Goal}
-use Rattle.campaign_plan.specs.declared.prepared.Prepared.{Prepared}
-use Rattle.campaign_plan.specs.Campaigns.{IsPlan}
-use Rattle.campaign_plan.proofs.Plans.{plan_fit}
-use Rattle.campaign_outcomes.specs.declared.outcome.Outcome.{Outcome}
-use Rattle.campaign_outcomes.specs.declared.outcome.Outcome.TheVariants.{Done, Unfinished, NoCampaign, AlreadyBegun, BookBad, KeeperFault, WriteFault, Memory, BaselineBad, RequirementMissed, NoMutation}
-use Rattle.campaign_run.specs.Changes.{IsNear, Upgraded}
-use Rattle.campaign_run.specs.Rows.{IsBlankOrGood, IsGood, IsPrefix, IsWithinOne}
-use Rattle.campaign_run.specs.Running.{book_of, AreWanted, IsWithin}
-use Rattle.campaign_run.proofs.Crashes.{either_books, weaker_books}
-use Rattle.mcy_top.specs.BookRefusals.{HasNamed}
-use Rattle.mcy_top.specs.Endings.{failed_outcome}
-use Rattle.mcy_top.specs.Life.{Answers, Carried, DidAll, GainsWanted, Grew, Work}
-use Rattle.mcy_top.specs.ProgramOrder.{IsInOrder}
+use Rattle.mcy_top.proofs.Common.{◌≡◌, ◌⊎◌, inl, inr, arith, ℕ, ◌+◌, Bool, true, false, List, [], ◌∷◌, ◌++◌, length, refl, sym, ap, subst, ◌∙◌, Option, Result, Ok, Err, OnErr, OnOk, IsErrOf, Entry}
+use Rattle.mcy_top.proofs.Common.{Book, KeepError, KeepFault, KeepMemory, is_first, upgraded, IsBlank, IsFirst, Keeps, LeavesEither, LeavesNothingNew, bounds_of, history, IsWellFormed, has_history}
+use Rattle.mcy_top.proofs.Common.{history_meta, history_mutations, Init, Run, Goal, Prepared, IsPlan, plan_fit, Outcome, Done, Unfinished, NoCampaign, AlreadyBegun, BookBad, KeeperFault, WriteFault}
+use Rattle.mcy_top.proofs.Common.{Memory, BaselineBad, RequirementMissed, NoMutation, IsNear, Upgraded, IsBlankOrGood, IsGood, IsPrefix, IsWithinOne, book_of, AreWanted, IsWithin, either_books}
+use Rattle.mcy_top.proofs.Common.{weaker_books, HasNamed, failed_outcome, Answers, Carried, DidAll, GainsWanted, Grew, Work, IsInOrder}
 use Rattle.mcy_top.proofs.Advancing.{good_history, history_else, history_first, history_second, within_itself}
-use Rattle.mcy_top.proofs.Completing.{form_not_bad}
+use Rattle.mcy_top.proofs.Completing.{form_not_bad, form_meta}
 use Rattle.mcy_top.proofs.Gaining.{gains_none, history_length}
 use Rattle.mcy_top.proofs.InOrder.{none_in_order, order_from}
 use Rattle.mcy_top.proofs.Living.{near_prefix}
 use Rattle.mcy_top.proofs.Once.{right_of}
 use Rattle.mcy_top.proofs.Prefixes.{prefix_trans}
-use Rattle.mcy_top.proofs.Kept.{few_kept, form_meta, within_same}
+use Rattle.mcy_top.proofs.Kept.{few_kept, within_same}
 
 -- The campaign's book, and its history.
 

@@ -1,46 +1,18 @@
 -- The work of a run, put together, and how the work of a command ends.
-use Rattle.std.proofs.Common.{◌≡◌, ◌≢◌, ◌⊎◌, inl, inr, arith, ℕ, ◌+◌, ◌≤◌, List, [], ◌∷◌, ◌++◌, length, refl, sym, ap, subst, Option, None, Some}
-use Rattle.std.proofs.lemmas.Bool.Decides.{eqb_tells}
-use Rattle.mcy_base.specs.Causes.{Rose}
-use Rattle.mcy_keeper.specs.declared.book.Entry.{Entry}
-use Rattle.mcy_keeper.specs.declared.book.Book.{Book}
-use Rattle.mcy_keeper.specs.declared.keeper.KeepError.{KeepError}
-use Rattle.mcy_keeper.specs.declared.keeper.KeepError.TheVariants.{Fault as KeepFault, Memory as KeepMemory}
-use Rattle.mcy_keeper.specs.Books.{blank, IsBlank, Keeps, with_entry}
-use Rattle.result_book.specs.declared.check.BookError.{BookError}
-use Rattle.result_book.specs.declared.check.BookError.TheVariants.{Meta, Mutation, Row, Stray, Memory as NoBookMemory}
-use Rattle.result_book.specs.Rows.{groups, history, IsFinished, IsWellFormed}
-use Rattle.source_report.specs.Texts.{status_text}
-use Rattle.command_words.specs.declared.command.Command.{Command}
-use Rattle.command_words.specs.declared.command.Command.TheVariants.{Init, Run}
-use Rattle.campaign_plan.specs.declared.prepared.Prepared.{Prepared}
-use Rattle.mcy_top.specs.declared.ending.Ending.{Ending}
-use Rattle.mcy_top.specs.declared.ending.Ending.TheVariants.{Written, Refused, NoMemory}
-use Rattle.campaign_outcomes.specs.declared.outcome.Outcome.{Outcome}
-use Rattle.campaign_outcomes.specs.declared.outcome.Outcome.TheVariants.{Done, Unfinished, NoCampaign, AlreadyBegun, BookBad, KeeperFault, WriteFault, Memory, BaselineBad, RequirementMissed, NoMutation}
-use Rattle.mcy_top.specs.Commands.{AimsAtAll, Runs}
-use Rattle.campaign_plan.specs.Campaigns.{IsPlan}
-use Rattle.campaign_run.specs.Rows.{AreRight, IsBlankOrGood, IsGood, IsNextRow, IsWithinOne}
-use Rattle.campaign_run.specs.Changes.{IsNear, opened}
-use Rattle.campaign_run.specs.Running.{book_of, AreWanted, Broke, IsWithin, Ran, Reached, WantsNone}
-use Rattle.result_book.specs.declared.goal.Goal.{Goal}
-use Rattle.result_book.specs.Goals.{wanted, IsGoal}
-use Rattle.result_book.proofs.Wanting.{unwanted_ended}
+use Rattle.mcy_top.proofs.Common.{◌≡◌, ◌≢◌, ◌⊎◌, inl, inr, arith, ℕ, ◌+◌, ◌≤◌, List, [], ◌∷◌, ◌++◌, length, refl, sym, ap, subst, Option, None, Some, eqb_tells, Rose, Entry, Book, KeepError}
+use Rattle.mcy_top.proofs.Common.{KeepFault, KeepMemory, blank, IsBlank, Keeps, with_entry, BookError, Meta, Mutation, Row, Stray, NoBookMemory, groups, history, IsFinished, IsWellFormed, status_text}
+use Rattle.mcy_top.proofs.Common.{Command, Init, Run, Prepared, Ending, Written, Refused, NoMemory, Outcome, Done, Unfinished, NoCampaign, AlreadyBegun, BookBad, KeeperFault, WriteFault, Memory}
+use Rattle.mcy_top.proofs.Common.{BaselineBad, RequirementMissed, NoMutation, AimsAtAll, Runs, IsPlan, AreRight, IsBlankOrGood, IsGood, IsNextRow, IsWithinOne, IsNear, opened, book_of, AreWanted}
+use Rattle.mcy_top.proofs.Common.{Broke, IsWithin, Ran, Reached, WantsNone, Goal, wanted, IsGoal, unwanted_ended, LeavesBooks, falls_short, HasNamed, IsBookBad, ended_outcome, failed_outcome}
+use Rattle.mcy_top.proofs.Common.{run_outcome, Delivers, Ends, wanting, Answers, AreEnded, Carried, DidAll, GainsWanted, Grew, IsCounted, StartsFew, Work, Wrote, IsInOrder, weaker_books, book_second}
+use Rattle.mcy_top.proofs.Common.{length_more}
 use Rattle.mcy_top.proofs.Gaining.{gains_ran}
 use Rattle.mcy_top.proofs.Prefixes.{prefix_on}
 use Rattle.mcy_top.proofs.InOrder.{order_from}
-use Rattle.campaign_run.specs.Crashes.{LeavesBooks}
-use Rattle.mcy_top.specs.Requirements.{falls_short}
-use Rattle.mcy_top.specs.BookRefusals.{HasNamed, IsBookBad}
-use Rattle.mcy_top.specs.Endings.{ended_outcome, failed_outcome, run_outcome, Delivers, Ends}
-use Rattle.mcy_top.specs.Life.{wanting, Answers, AreEnded, Carried, DidAll, GainsWanted, Grew, IsCounted, StartsFew, Work, Wrote}
-use Rattle.mcy_top.specs.ProgramOrder.{IsInOrder}
 use Rattle.mcy_top.proofs.Advancing.{good_more, good_rows, history_second, opened_form, within_itself, within_more}
 use Rattle.mcy_top.proofs.Counting.{counted_none, none_counted}
 use Rattle.mcy_top.proofs.Doing.{all_answers, done_carried, text_wrote}
-use Rattle.campaign_run.proofs.Crashes.{weaker_books}
 use Rattle.mcy_top.proofs.Finishing.{final_is}
-use Rattle.campaign_run.proofs.Growing.{book_second, length_more}
 use Rattle.mcy_top.proofs.Once.{right_of}
 use Rattle.mcy_top.proofs.Kept.{plan_begun, grew_exact, opened_good, opened_rows}
 

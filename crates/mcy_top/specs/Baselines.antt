@@ -18,11 +18,6 @@ use Rattle.campaign_outcomes.specs.declared.outcome.Outcome.TheVariants.{Done, B
 abbrev pub baselines_text : Prepared → List Baseline → List ℕ
 baselines_text c list = baseline_text c.campaign.test_names list
 
--- how a call ends that has told whether all benches pass
-abbrev pub baseline_outcome : Bool → Outcome
-baseline_outcome true = Done
-baseline_outcome false = BaselineBad
-
 -- What was written at each outcome: the whole text where each bench passes, and where one does not; and a first part of it where the
 -- sink failed.
 abbrev pub TellsBaselines : Prepared → (before now : Option (List ℕ)) → Outcome → Type 0
@@ -65,3 +60,10 @@ pub record HasNoBaselines (held : Option Held) (before now : ℕ) : Type 0 where
 
 abbrev pub IsFailingText : Option Held → (before now : ℕ) → List ℕ → Type 0
 IsFailingText held before now text = TellsFailing held text ⊎ ((text ≡ []) × HasNoBaselines held before now)
+
+-- For proofs alone.
+
+-- how a call ends that has told whether all benches pass
+abbrev pub baseline_outcome : Bool → Outcome
+baseline_outcome true = Done
+baseline_outcome false = BaselineBad

@@ -43,19 +43,6 @@ slots_of Source = 0
 slots_of Baseline = 0
 slots_of (Demo seed cells) = 4
 
--- and a run may have at least one, and at most 64
-abbrev pub AreSlots : ℕ → Type 0
-AreSlots jobs = (1 ≤ jobs) × (jobs ≤ 64)
-
-abbrev pub HasSlots : Command → Type 0
-HasSlots Init = ⊤
-HasSlots (Run jobs stop_after retry) = AreSlots jobs
-HasSlots Listing = ⊤
-HasSlots (Status strict) = ⊤
-HasSlots Source = ⊤
-HasSlots Baseline = ⊤
-HasSlots (Demo seed cells) = ⊤
-
 -- the number of rows after which a command is to stop, if it has one
 abbrev pub stop_of : Command → Option ℕ
 stop_of Init = None
@@ -111,3 +98,18 @@ OnlyReads (Status strict) = ⊤
 OnlyReads Source = ⊤
 OnlyReads Baseline = ⊥
 OnlyReads (Demo seed cells) = ⊥
+
+-- For proofs alone.
+
+-- and a run may have at least one, and at most 64
+abbrev pub AreSlots : ℕ → Type 0
+AreSlots jobs = (1 ≤ jobs) × (jobs ≤ 64)
+
+abbrev pub HasSlots : Command → Type 0
+HasSlots Init = ⊤
+HasSlots (Run jobs stop_after retry) = AreSlots jobs
+HasSlots Listing = ⊤
+HasSlots (Status strict) = ⊤
+HasSlots Source = ⊤
+HasSlots Baseline = ⊤
+HasSlots (Demo seed cells) = ⊤

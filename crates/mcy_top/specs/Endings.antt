@@ -17,6 +17,8 @@ use Rattle.result_book.specs.Rows.{groups}
 use Rattle.mcy_top.specs.Requirements.{falls_short}
 use Rattle.mcy_top.specs.Life.{wanting, IsQuiet}
 
+-- For proofs alone.
+
 -- the outcome of a command that was done
 abbrev pub done_outcome : (missed : Bool) → Outcome
 done_outcome true = RequirementMissed

@@ -21,3 +21,4 @@ pub mod BaselineLaws
 pub mod Lives
 pub mod Calls
 pub mod Histories
+pub mod Passes

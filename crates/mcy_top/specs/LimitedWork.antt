@@ -9,6 +9,8 @@ use Rattle.campaign_outcomes.specs.declared.outcome.Outcome.{Outcome}
 use Rattle.mcy_top.specs.Life.{Carried, Work}
 use Rattle.mcy_top.specs.Limits.{Opens}
 
+-- For proofs alone.
+
 -- The limit is the project's, or follows from its baselines. Where the text was written, the baselines pass that the project asks for.
 pub record WorkUnder (leaves : Option Book → Type 0) (written written' : Option (List ℕ)) (taken taken' : ℕ) (command : Command) (aim : Goal) (c : Prepared) (loaded : Book) (outcome : Outcome) : Type 0 where
   pub cycles : ℕ

@@ -19,6 +19,8 @@ Opens (Demo seed cells) = ⊥
 abbrev pub IsUnfit : Command → Prepared → Type 0
 IsUnfit command c = Opens command × FailsBaselines c
 
+-- For proofs alone.
+
 -- The limit of cycles under which a command is carried out. Where it begins a campaign or runs it, the baselines pass that the project
 -- asks for.
 pub record IsLimitFor (command : Command) (c : Prepared) (cycles : ℕ) : Type 0 where

@@ -3,7 +3,7 @@ use Rattle.std.specs.Prelude.{ℕ, List}
 use Rattle.std.specs.List.{Contains}
 use Rattle.netlist_core.specs.Solutions.{FitsInputs, FitsRegisters}
 use Rattle.mutation_sites.specs.declared.site.Site.{Site}
-use Rattle.elab_hier.specs.Elaborations.{CanRun}
+use Rattle.elab_hier.specs.Accepted.{CanRun}
 use Rattle.step_trials.specs.Equal.{design, mutant, HasOneSolution}
 use Rattle.campaign_plan.specs.declared.prepared.Prepared.{Prepared}
 use Rattle.campaign_plan.specs.Campaigns.{IsPlan}

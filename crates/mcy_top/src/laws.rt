@@ -5,6 +5,7 @@ ghost use Rattle.mcy_keeper.specs.Books.{LeavesSome};
 ghost use Rattle.mcy_top.specs.Once.{AnswersAreOne, CampaignsAreOne, FinalTextsAreOne, FinishedBooksMissTheSame, FinishedTextsAreOne};
 ghost use Rattle.mcy_top.specs.Exact.{BookRefusalsAreExact, FileRefusalsAreExact, FilesHaveOneCause, RefusedFilesMakeNone, UsageIsExact};
 ghost use Rattle.mcy_top.specs.Lives.{LivesAreSafe, PartsAreGood};
+ghost use Rattle.mcy_top.specs.Passes.{GoodBooksTellTrue};
 ghost use Rattle.mcy_top.specs.Calls.{CallIsALife, SureBookHasAll, UnloadedCallLeavesNothingNew};
 ghost use Rattle.mcy_top.specs.Histories.{CallsAreAHistory, CallsAreSafe, DoneCallsTellTrue, RestartsFindBooks};
 
@@ -56,6 +57,12 @@ pub fn finished_texts_are_the_campaigns()
 pub fn lives_are_safe()
     ensures lives { LivesAreSafe }
     ensures parts { PartsAreGood }
+{}
+
+/// In a good book each row PASS of an equivalence test is true of the design whose files the book keeps, and of the mutation whose text it
+/// keeps.
+pub fn passes_are_true()
+    ensures { GoodBooksTellTrue }
 {}
 
 /// After a call that has loaded a book, a crash leaves something, and always a book. What the call is sure of

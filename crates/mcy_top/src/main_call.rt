@@ -5,6 +5,7 @@ ghost use Rattle.mcy_top.specs.Baselines.{ToldBaselines};
 ghost use Rattle.mcy_top.specs.Commands.{goal_of, AsksBaseline, AsksDemo, AsksNoDemo};
 ghost use Rattle.mcy_top.specs.Complete.{Completes, IsReady, NoneRose};
 ghost use Rattle.mcy_top.specs.Life.{Answered, HasCause, IsQuiet, Life, Unloaded};
+ghost use Rattle.mcy_top.specs.Passes.{LeavesTruePasses};
 ghost use Rattle.mcy_top.specs.Shown.{Shown};
 
 use crate::baseline::baseline;
@@ -72,6 +73,9 @@ pub fn mcy_main<F: SourceFiles, K: Keeper, O: Sink, L: Ledger>(
     // What the benches say of the design itself is told without a call on the keeper, and no test is started.
     ensures baseline { AsksBaseline (map string_bytes words.now) → ToldBaselines (F.held files.old) (O.written out.old) (O.written out.new) result × (steps.new ≡ steps.old) × (keeper.new ≡ keeper.old) }
 
+    // Where each row PASS of an equivalence test was true in each book that a crash could leave before, each is in those that it may leave now.
+    ensures pass { K.tells keeper.new → LeavesTruePasses (K.leaves keeper.old) → LeavesTruePasses (K.leaves keeper.new) }
+
     // Where all is there and nothing fails, the command is carried out, or there is no memory.
     ensures complete { K.tells keeper.new → (command : Asked) → IsReady (map string_bytes words.now) (F.held files.old) (K.holds keeper.old) (K.leaves keeper.old) command
         → NoneRose (F.faults files.old) (F.faults files.new) (K.faults keeper.old) (K.faults keeper.new) (O.faults out.old) (O.faults out.new) → Completes command result }
@@ -79,7 +83,7 @@ pub fn mcy_main<F: SourceFiles, K: Keeper, O: Sink, L: Ledger>(
     carry_out_words(alloc, words, files, keeper, out, steps)
 }
 
-/// Carries out the command, with every promise but that it is completed.
+/// Carries out the command, with every promise but those on rows PASS and that it is completed.
 fn carry_out_words<F: SourceFiles, K: Keeper, O: Sink, L: Ledger>(
     alloc: Global,
     words: &[String],
@@ -138,6 +142,7 @@ pub fn mcy_call<F: SourceFiles, K: Keeper, O: Sink>(
         ⊎ Life (map string_bytes words.now) (F.held files.old) (K.holds keeper.old) (K.leaves keeper.old) (K.leaves keeper.new) (O.written out.old) (O.written out.new) 0 n result) }
     ensures demo { (seed cells : ℕ) → AsksDemo (map string_bytes words.now) seed cells → (n : ℕ) × Shown seed cells (O.written out.old) (O.written out.new) 0 n result × (files.new ≡ files.old) × (keeper.new ≡ keeper.old) }
     ensures baseline { AsksBaseline (map string_bytes words.now) → ToldBaselines (F.held files.old) (O.written out.old) (O.written out.new) result × (keeper.new ≡ keeper.old) }
+    ensures pass { K.tells keeper.new → LeavesTruePasses (K.leaves keeper.old) → LeavesTruePasses (K.leaves keeper.new) }
     ensures complete { K.tells keeper.new → (command : Asked) → IsReady (map string_bytes words.now) (F.held files.old) (K.holds keeper.old) (K.leaves keeper.old) command
         → NoneRose (F.faults files.old) (F.faults files.new) (K.faults keeper.old) (K.faults keeper.new) (O.faults out.old) (O.faults out.new) → Completes command result }
 {
@@ -164,6 +169,7 @@ fn call_with<F: SourceFiles, K: Keeper, O: Sink, L: Ledger>(
         ⊎ Life (map string_bytes words.now) (F.held files.old) (K.holds keeper.old) (K.leaves keeper.old) (K.leaves keeper.new) (O.written out.old) (O.written out.new) 0 n result) }
     ensures demo { (seed cells : ℕ) → AsksDemo (map string_bytes words.now) seed cells → (n : ℕ) × Shown seed cells (O.written out.old) (O.written out.new) 0 n result × (files.new ≡ files.old) × (keeper.new ≡ keeper.old) }
     ensures baseline { AsksBaseline (map string_bytes words.now) → ToldBaselines (F.held files.old) (O.written out.old) (O.written out.new) result × (keeper.new ≡ keeper.old) }
+    ensures pass { K.tells keeper.new → LeavesTruePasses (K.leaves keeper.old) → LeavesTruePasses (K.leaves keeper.new) }
     ensures complete { K.tells keeper.new → (command : Asked) → IsReady (map string_bytes words.now) (F.held files.old) (K.holds keeper.old) (K.leaves keeper.old) command
         → NoneRose (F.faults files.old) (F.faults files.new) (K.faults keeper.old) (K.faults keeper.new) (O.faults out.old) (O.faults out.new) → Completes command result }
 {

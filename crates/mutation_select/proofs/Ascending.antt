@@ -1,15 +1,7 @@
 -- Lists of numbers that ascend: such a list is known by how often each number stands in it.
-use Rattle.std.proofs.Common.{◌≡◌, ℕ, zero, suc, ◌+◌, ◌≤◌, ◌<◌, Bool, true, false, true≢false, List, [], ◌∷◌, length, map, cond, refl, sym, ap, ◌∙◌, inl, inr, arith}
-use Rattle.std.specs.Prelude.{eqb, filter}
-use Rattle.std.specs.List.{count_by}
-use Rattle.std.specs.List.Sorted.{IsSorted}
-use Rattle.std.specs.Ordering.{nat_cmp, is_lt}
-use Rattle.std.specs.declared.cmp.Ordering.TheVariants.{Less}
-use Rattle.std.proofs.lemmas.Bool.{cases_lt, eq-eqb}
-use Rattle.std.proofs.lemmas.Bool.Decides.{eqb_tells}
-use Rattle.std.specs.Cmp.{nat_cmp_is}
-use Rattle.mutation_select.specs.Walks.{Ascends}
-use Rattle.mutation_select.proofs.Counts.{count-yes, count-no, count-more, sorted-tail, filter-yes, filter-no}
+use Rattle.mutation_select.proofs.Common.{◌≡◌, ℕ, ◌+◌, ◌≤◌, ◌<◌, Bool, true, false, true≢false, List, [], ◌∷◌, map, refl, sym, ap, ◌∙◌, inl, inr, arith, eqb, filter, count_by, IsSorted, nat_cmp}
+use Rattle.mutation_select.proofs.Common.{is_lt, Less, cases_lt, eq-eqb, eqb_tells, nat_cmp_is, Ascends}
+use Rattle.mutation_select.proofs.Counts.{count-yes, count-no, count-more, sorted-tail}
 
 abbrev pub times : ℕ → List ℕ → ℕ
 times n = count_by (λ x. eqb n x)

@@ -1,10 +1,6 @@
 -- How many elements of a list pass a test.
-use Rattle.std.proofs.Common.{◌≡◌, ℕ, zero, suc, ◌+◌, ◌≤◌, ◌<◌, Bool, true, false, List, [], ◌∷◌, ◌++◌, length, get_or, map, cond, refl, sym, ap, ◌∙◌, subst, arith}
-use Rattle.std.specs.Prelude.{filter, ◌&&◌}
-use Rattle.std.specs.List.{count_by, sum_by, AllByRecursion}
-use Rattle.std.specs.List.Sorted.{IsPermutation, IsSortedBy}
-use Rattle.std.proofs.lemmas.List.Sums.{sum_by-cons, sum_by-append, get_or-le-sum_by}
-use Rattle.std.proofs.lemmas.List.Sorted.{sum_by-IsPermutation}
+use Rattle.mutation_select.proofs.Common.{◌≡◌, ℕ, zero, suc, ◌+◌, ◌≤◌, ◌<◌, Bool, true, false, List, [], ◌∷◌, ◌++◌, length, get_or, map, cond, refl, ap, ◌∙◌, subst, arith, filter, ◌&&◌, count_by}
+use Rattle.mutation_select.proofs.Common.{sum_by, AllByRecursion, IsPermutation, IsSortedBy, sum_by-cons, sum_by-append, get_or-le-sum_by, sum_by-IsPermutation}
 
 module _ {X : Type 0} (p : X → Bool) where
   abbrev pub one : X → ℕ

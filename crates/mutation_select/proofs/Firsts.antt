@@ -1,23 +1,12 @@
 -- What is taken of draws: those in front, where as many are to be taken and none behind is less.
-use Rattle.std.proofs.Common.{◌≡◌, ◌≢◌, ℕ, zero, suc, ◌+◌, ◌≤◌, ◌<◌, Bool, true, false, List, [], ◌∷◌, ◌++◌, length, get_or, map, refl, sym, ap, ◌∙◌, subst, rules, arith}
-use Rattle.std.specs.Prelude.{eqb, ltb, filter, ◌&&◌}
-use Rattle.std.specs.Cmp.{IsTotalOrder}
-use Rattle.std.specs.Cmp.Rules.{comparing}
-use Rattle.std.specs.List.{count_by}
-use Rattle.std.specs.List.Sorted.{IsPermutation, IsSorted, IsSplitAround}
+use Rattle.mutation_select.proofs.Common.{◌≡◌, ℕ, zero, suc, ◌≤◌, ◌<◌, true, false, List, [], ◌∷◌, ◌++◌, length, get_or, map, sym, ap, ◌∙◌, subst, rules, arith, eqb, ltb, filter, ◌&&◌, IsTotalOrder}
+use Rattle.mutation_select.proofs.Common.{comparing, count_by, IsPermutation, IsSorted, IsSplitAround, Equal, is_lt, nat_cmp, le-ltb, lt-ltb, filter-append, recursion_from_All, IsPermutation-trans}
+use Rattle.mutation_select.proofs.Common.{length_permutation, Draw, draw_cmp, draw_number, is_taken, taken, Ascends}
 use Rattle.std.specs.Result.{IfOk}
 use Rattle.std.specs.declared.result.Result.{Result}
 use Rattle.std.specs.declared.result.Result.TheVariants.{Ok, Err}
-use Rattle.std.specs.declared.cmp.Ordering.TheVariants.{Equal}
-use Rattle.std.specs.Ordering.{is_lt, nat_cmp}
-use Rattle.std.proofs.lemmas.Bool.{le-ltb, lt-ltb}
-use Rattle.std.proofs.lemmas.List.Elements.{filter-append, recursion_from_All}
 use Rattle.std.proofs.lemmas.List.{append-nil, length-map}
-use Rattle.std.proofs.lemmas.List.Sorted.{IsPermutation-trans, length_permutation}
-use Rattle.mutation_select.specs.declared.draw.Draw.{Draw}
-use Rattle.mutation_select.specs.Selection.{draw_cmp, draw_number, is_taken, taken}
-use Rattle.mutation_select.specs.Walks.{Ascends}
-use Rattle.mutation_select.proofs.Counts.{count-append, count-all, count-none, count-few, count-miss, count-permutation, count-map, count-filter, filter-all, filter-none}
+use Rattle.mutation_select.proofs.Counts.{count-append, count-all, count-none, count-miss, count-permutation, count-map, count-filter, filter-all, filter-none}
 use Rattle.mutation_select.proofs.Ascending.{times, times-once, sorted-numbers, Ascends-filter}
 use Rattle.mutation_select.proofs.Order.{equal-last, equal-numbers, not-itself, turned, chained, differs}
 

@@ -1,17 +1,11 @@
 -- The numbers of what sites draw are their places, in order.
-use Rattle.std.proofs.Common.{◌≡◌, ℕ, suc, ◌+◌, ◌≤◌, Bool, cond, true, false, filter, List, [], ◌∷◌, length, map, refl, sym, ap, subst, arith}
-use Rattle.std.specs.List.Sorted.{IsPermutation}
-use Rattle.std.proofs.lemmas.List.Sorted.{IsPermutation-refl}
+use Rattle.mutation_select.proofs.Common.{◌≡◌, ℕ, suc, ◌+◌, ◌≤◌, Bool, cond, true, false, List, [], ◌∷◌, length, map, refl, ap, arith, Drawn, Pick, Plain, Even, drawn, draw_number, draws, is_kept}
+use Rattle.mutation_select.proofs.Common.{kept, number_of, rank, with_rank, Ascends}
+use Rattle.std.proofs.Common.{filter}
 use Rattle.rand_pcg.specs.Lcg.{Lcg}
 use Rattle.rand_pcg.specs.Pcg.{pcg64}
 use Rattle.netlist_core.specs.declared.raw.RawNetlist.{RawNetlist}
 use Rattle.mutation_sites.specs.declared.site.Site.{Site}
-use Rattle.mutation_select.specs.declared.words.Drawn.{Drawn}
-use Rattle.mutation_select.specs.declared.pick.Pick.{Pick}
-use Rattle.mutation_select.specs.declared.pick.Pick.TheVariants.{Plain, Even}
-use Rattle.mutation_select.specs.Draws.{drawn}
-use Rattle.mutation_select.specs.Selection.{draw_number, draws, is_kept, kept, number_of, rank, with_rank}
-use Rattle.mutation_select.specs.Walks.{Ascends}
 use Rattle.mutation_select.proofs.Ascending.{Ascends-filter}
 
 pub drawn-ascends : (netlist : RawNetlist) (g : Lcg) (i : ℕ) (sites : List Site) → Ascends i (map number_of (drawn netlist g i sites))
@@ -52,6 +46,3 @@ ranked-length f (d ∷ more) = omega (arith, ranked-length f more)
 pub length-draws : (pick : Pick) (sites : List Drawn) → length (draws pick sites) ≡ length sites
 length-draws Plain sites = ranked-length (λ d. 0) sites
 length-draws Even sites = ranked-length (rank sites) sites
-
-pub permutation-same : {X : Type 0} (xs ys : List X) → ys ≡ xs → IsPermutation xs ys
-permutation-same xs ys same = subst (λ list. IsPermutation xs list) (sym same) (IsPermutation-refl xs)

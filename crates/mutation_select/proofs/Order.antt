@@ -1,16 +1,7 @@
 -- Lists in a total order whose elements have numbers of their own.
-use Rattle.std.proofs.Common.{◌≡◌, ◌≢◌, ℕ, zero, suc, ◌+◌, ◌≤◌, ◌<◌, Bool, true, false, true≢false, List, [], ◌∷◌, ◌++◌, length, get_or, map, cond, refl, sym, ap, ◌∙◌, inl, inr, arith}
-use Rattle.std.specs.Prelude.{eqb, ⊤}
-use Rattle.std.specs.Cmp.{IsTotalOrder, nat_cmp_is}
-use Rattle.std.specs.List.{count_by, AllByRecursion}
-use Rattle.std.specs.List.Sorted.{IsSorted}
-use Rattle.std.specs.declared.cmp.Ordering.{Ordering}
-use Rattle.std.specs.declared.cmp.Ordering.TheVariants.{Less, Equal, Greater}
-use Rattle.std.specs.Ordering.{is_lt, is_gt, nat_cmp, ordering_reverse, ordering_then}
-use Rattle.std.proofs.lemmas.Bool.{cases_order, eq-eqb}
-use Rattle.std.proofs.lemmas.Cmp.{upto, tied_itself}
-use Rattle.std.proofs.lemmas.List.Elements.{recursion_from_All}
-use Rattle.std.proofs.lemmas.List.Sorted.{ranks_by, sorted_far}
+use Rattle.mutation_select.proofs.Common.{◌≡◌, ◌≢◌, ℕ, suc, ◌≤◌, ◌<◌, true, false, true≢false, List, [], ◌∷◌, ◌++◌, length, get_or, refl, sym, ap, ◌∙◌, inl, inr, arith, eqb, ⊤, IsTotalOrder}
+use Rattle.mutation_select.proofs.Common.{nat_cmp_is, count_by, AllByRecursion, IsSorted, Ordering, Less, Equal, Greater, is_lt, is_gt, nat_cmp, ordering_reverse, ordering_then, cases_order, eq-eqb}
+use Rattle.mutation_select.proofs.Common.{upto, tied_itself, recursion_from_All, ranks_by, sorted_far}
 use Rattle.mutation_select.proofs.Counts.{count-append, count-hit, count-more, sorted-tail}
 
 -- what two orders answer, one after the other, is equal only where both are

@@ -1,20 +1,8 @@
 -- The ranks that a walk over sorted sites gives are those of the sites.
-use Rattle.std.proofs.Common.{◌≡◌, ◌≢◌, ℕ, zero, suc, ◌+◌, ◌≤◌, ◌<◌, Bool, true, false, true≢false, List, [], ◌∷◌, ◌++◌, Option, Some, None, length, get_or, map, cond, refl, sym, ap, ◌∙◌, inl, inr, subst, append_assoc, rules, arith}
-use Rattle.std.specs.Prelude.{eqb, ◌&&◌, ◌⊎◌}
-use Rattle.std.specs.Cmp.{IsTotalOrder, nat_cmp_is}
-use Rattle.std.specs.Cmp.Rules.{comparing}
-use Rattle.std.specs.List.{count_by, AllByRecursion}
-use Rattle.std.specs.List.Sorted.{IsPermutation, IsSorted}
-use Rattle.std.specs.declared.cmp.Ordering.{Ordering}
-use Rattle.std.specs.declared.cmp.Ordering.TheVariants.{Less, Equal, Greater}
-use Rattle.std.specs.Ordering.{is_lt, nat_cmp, on, ordering_then, then_cmp}
-use Rattle.std.proofs.lemmas.Bool.{cases_lt, cases_order, eqb-true, eq-eqb}
-use Rattle.std.proofs.lemmas.Cmp.{tied_itself}
-use Rattle.std.proofs.lemmas.List.Sorted.{IsPermutation-map}
-use Rattle.mutation_select.specs.declared.words.Drawn.{Drawn}
-use Rattle.mutation_select.specs.declared.draw.Draw.{Draw}
-use Rattle.mutation_select.specs.Selection.{drawn_cmp, number_of, rank, ranked, shares_line, with_rank}
-use Rattle.mutation_select.specs.Walks.{Ascends, rank_after, ranked_from}
+use Rattle.mutation_select.proofs.Common.{◌≡◌, ℕ, ◌+◌, ◌≤◌, ◌<◌, Bool, true, false, true≢false, List, [], ◌∷◌, ◌++◌, Option, Some, None, map, cond, refl, sym, ap, ◌∙◌, inl, inr, subst, append_assoc}
+use Rattle.mutation_select.proofs.Common.{rules, arith, eqb, ◌&&◌, ◌⊎◌, IsTotalOrder, nat_cmp_is, comparing, count_by, AllByRecursion, IsPermutation, IsSorted, Ordering, Equal, Greater, is_lt}
+use Rattle.mutation_select.proofs.Common.{nat_cmp, on, then_cmp, cases_lt, cases_order, eqb-true, eq-eqb, tied_itself, IsPermutation-map, Drawn, Draw, drawn_cmp, number_of, rank, ranked, shares_line}
+use Rattle.mutation_select.proofs.Common.{with_rank, Ascends, rank_after, ranked_from}
 use Rattle.mutation_select.proofs.Counts.{count-alike, count-append, count-yes, count-no, count-none, count-permutation, count-map}
 use Rattle.mutation_select.proofs.Ascending.{times-once}
 use Rattle.mutation_select.proofs.Order.{equal-last, equal-numbers, turned-off, Rises, sorted-rises}

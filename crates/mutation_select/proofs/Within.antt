@@ -1,33 +1,15 @@
 -- Not more sites are selected than the size: in a total order at most so many elements have fewer than so many before them.
-use Rattle.std.proofs.Common.{◌≡◌, ◌≢◌, ℕ, zero, suc, ◌+◌, ◌≤◌, ◌<◌, Bool, true, false, true≢false, List, [], ◌∷◌, length, get_or, map, cond, refl, sym, ap, ◌∙◌, subst, rules, arith}
-use Rattle.std.specs.Prelude.{eqb, ltb, filter}
-use Rattle.std.specs.Cmp.{IsTotalOrder}
-use Rattle.std.specs.Cmp.Rules.{comparing}
-use Rattle.std.specs.List.{count_by}
-use Rattle.std.specs.declared.cmp.Ordering.{Ordering}
-use Rattle.std.specs.declared.cmp.Ordering.TheVariants.{Less, Equal, Greater}
-use Rattle.std.specs.Ordering.{is_lt, is_gt, nat_cmp, ordering_reverse}
-use Rattle.std.proofs.lemmas.Bool.Decides.{nat_tests}
-use Rattle.std.proofs.lemmas.Cmp.{upto, tied_itself}
+use Rattle.mutation_select.proofs.Common.{◌≡◌, ◌≢◌, ℕ, zero, suc, ◌+◌, ◌≤◌, ◌<◌, Bool, true, false, true≢false, List, [], ◌∷◌, length, get_or, map, cond, refl, sym, ap, ◌∙◌, subst, rules, arith, eqb}
+use Rattle.mutation_select.proofs.Common.{ltb, filter, IsTotalOrder, comparing, count_by, Ordering, Less, Equal, Greater, is_lt, is_gt, ordering_reverse, nat_tests, upto, tied_itself, length-filter}
+use Rattle.mutation_select.proofs.Common.{Draw, Drawn, Pick, Plain, Even, drawn, draw_cmp, draw_number, draws, is_taken, kept, number_of, rank, selected, with_rank, Ascends, false_from_ne_true}
 use Rattle.std.proofs.lemmas.List.{length-map, get_or-map}
-use Rattle.std.proofs.lemmas.List.Sums.{length-filter}
-use Rattle.mutation_select.specs.declared.draw.Draw.{Draw}
-use Rattle.mutation_select.specs.declared.words.Drawn.{Drawn}
-use Rattle.mutation_select.specs.declared.pick.Pick.{Pick}
-use Rattle.mutation_select.specs.declared.pick.Pick.TheVariants.{Plain, Even}
-use Rattle.mutation_select.specs.Draws.{drawn}
-use Rattle.mutation_select.specs.Selection.{draw_cmp, draw_number, draws, is_taken, kept, number_of, rank, selected, with_rank}
 use Rattle.mutation_select.specs.Laws.{SelectionsAreFew}
-use Rattle.mutation_select.specs.Walks.{Ascends}
 use Rattle.mutation_select.proofs.Counts.{count-cons, count-no, count-yes}
-use Rattle.mutation_select.proofs.Order.{equal-last, equal-numbers}
 use Rattle.mutation_select.proofs.Numbered.{drawn-ascends, kept-ascends, length-draws}
+use Rattle.std.proofs.lemmas.Map.Views.{exact_unsigned_eq}
+use Rattle.mutation_select.proofs.Firsts.{draw_tells}
 
 -- Counts.
-
-untrue : (b : Bool) → (b ≡ true → ⊥) → b ≡ false
-untrue true wrong = absurd (wrong refl)
-untrue false wrong = refl
 
 at_most : (b c : Bool) → (b ≡ true → c ≡ true) → cond b 1 0 ≤ cond c 1 0
 at_most true c on = subst (λ (c : Bool). 1 ≤ cond c 1 0) (sym (on refl)) (omega arith)
@@ -43,7 +25,7 @@ not_below n is = absurd (grind (arith, nat_tests))
 module _ {X : Type 0} where
   none : (p : X → Bool) (xs : List X) → ((k : ℕ) (d : X) → k < length xs → p (get_or xs k d) ≡ true → ⊥) → count_by p xs ≡ 0
   none p [] misses = refl
-  none p (x ∷ xs) misses = omega (arith, count-no p x xs (untrue (p x) (misses zero x (omega arith))), none p xs (λ k d within. misses (suc k) d (omega (arith, within))))
+  none p (x ∷ xs) misses = omega (arith, count-no p x xs (false_from_ne_true (p x) (misses zero x (omega arith))), none p xs (λ k d within. misses (suc k) d (omega (arith, within))))
 
   -- a test that does not pass at two places
   single_by : (p : X → Bool) (x : X) (xs : List X) (b : Bool) → p x ≡ b → (b ≡ true → (k : ℕ) (d : X) → k < length xs → p (get_or xs k d) ≡ true → ⊥) → count_by p xs ≤ 1 → count_by p (x ∷ xs) ≤ 1
@@ -72,9 +54,6 @@ module _ {X : Type 0} where
 
   none_below : (f : X → ℕ) (xs : List X) → count_by (λ x. ltb (f x) 0) xs ≡ 0
   none_below f xs = none (λ x. ltb (f x) 0) xs (λ k d within. not_below (f (get_or xs k d)))
-
-same_number : (a b : ℕ) → eqb a b ≡ true → a ≡ b
-same_number a b is = grind (arith, nat_tests)
 
 -- In a total order, where each has a number of its own.
 
@@ -131,7 +110,7 @@ module _ {X : Type 0} (R : X → X → Ordering) (o : IsTotalOrder R) (number : 
             omega (arith, same, more_before j d x within back)
 
     one_at : (k : ℕ) → count_by (λ d. eqb (before d) k) all ≤ 1
-    one_at k = single (λ d. eqb (before d) k) all (λ i j d less within here there. differ i j d less within (same_number (before (get_or all i d)) k here ∙ sym (same_number (before (get_or all j d)) k there)))
+    one_at k = single (λ d. eqb (before d) k) all (λ i j d less within here there. differ i j d less within (exact_unsigned_eq (before (get_or all i d)) k here ∙ sym (exact_unsigned_eq (before (get_or all j d)) k there)))
 
     few_below : (size : ℕ) → count_by (λ d. ltb (before d) size) all ≤ size
     few_below zero = omega (arith, none_below before all)
@@ -141,9 +120,6 @@ module _ {X : Type 0} (R : X → X → Ordering) (o : IsTotalOrder R) (number : 
 
 draw_total : IsTotalOrder draw_cmp
 draw_total = search (comparing, rules)
-
-draw_tells : (x y : Draw) → draw_cmp x y ≡ Equal → draw_number x ≡ draw_number y
-draw_tells x y h = equal-numbers x.number y.number (equal-last (nat_cmp x.word y.word) _ (equal-last (nat_cmp x.rank y.rank) _ h))
 
 ranked_number : (f : Drawn → ℕ) (words : List Drawn) (k : ℕ) (d : Draw) (e : Drawn) → k < length words → draw_number (get_or (map (λ w. with_rank (f w) w) words) k d) ≡ number_of (get_or words k e)
 ranked_number f words k d e within = ap draw_number (get_or-map (λ w. with_rank (f w) w) words k e d within)

@@ -8,9 +8,6 @@ use Rattle.mutation_select.specs.declared.pick.Pick.TheVariants.{Plain, Even}
 use Rattle.mutation_select.specs.declared.draw.Draw.{Draw}
 use Rattle.mutation_select.specs.declared.words.Drawn.{Drawn}
 
-abbrev pub number_of : Drawn → ℕ
-number_of d = d.number
-
 abbrev pub draw_number : Draw → ℕ
 draw_number d = d.number
 
@@ -63,3 +60,8 @@ taken size all = map draw_number (filter (is_taken size all) all)
 -- the numbers of the selected sites, in their order
 abbrev pub selected : Pick → ℕ → List Drawn → List ℕ
 selected pick size sites = taken size (draws pick sites)
+
+-- For proofs alone.
+
+abbrev pub number_of : Drawn → ℕ
+number_of d = d.number

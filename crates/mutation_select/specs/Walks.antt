@@ -4,6 +4,8 @@ use Rattle.mutation_select.specs.declared.draw.Draw.{Draw}
 use Rattle.mutation_select.specs.declared.words.Drawn.{Drawn}
 use Rattle.mutation_select.specs.Selection.{shares_line, with_rank}
 
+-- For proofs alone.
+
 -- each number is at least i, and above those before it
 abbrev pub Ascends : ℕ → List ℕ → Type 0
 Ascends i [] = ⊤

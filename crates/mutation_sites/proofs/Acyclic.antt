@@ -1,32 +1,15 @@
 -- A mutant has no loop: a way through its new cell is one of the netlist without it.
-use Rattle.std.proofs.Common.{◌≡◌, ℕ, zero, suc, ◌+◌, ◌%◌, ◌<◌, ◌≤◌, List, [], ◌∷◌, ◌++◌, length, get_or, slice_get, Option, ◌⊎◌, inl, inr, refl, sym, ap, subst, ◌∙◌, arith}
-use Rattle.std.proofs.lemmas.Bool.{cases_lt}
-use Rattle.std.proofs.lemmas.Bool.Decides.{eqb_tells}
-use Rattle.mcy_base.specs.declared.span.Span.{Span}
-use Rattle.netlist_core.specs.declared.bit.Bit.{Bit}
-use Rattle.netlist_core.specs.declared.bit.Bit.TheVariants.{Fixed, Net}
-use Rattle.netlist_core.specs.declared.cell.Cell.{Cell as Gate}
-use Rattle.netlist_core.specs.declared.raw.RawNetlist.{RawNetlist}
-use Rattle.netlist_core.specs.Runs.{Port, input_ports, output_port}
-use Rattle.netlist_core.specs.Drivers.{times, times_at, drivers, readers}
-use Rattle.netlist_core.specs.Orders.{ports_of, Reads, ReadsThrough, IsOnLoop}
-use Rattle.netlist_core.specs.Checked.{Never, Plan, IsSound}
-use Rattle.netlist_core.proofs.Owners.{y-one, y-two}
-use Rattle.mutation_sites.specs.declared.mode.Mode.{Mode}
-use Rattle.mutation_sites.specs.declared.mode.Mode.TheVariants.{Inv, Const0, Const1, Cnot0, Cnot1}
-use Rattle.mutation_sites.specs.declared.site.Place.{Place}
-use Rattle.mutation_sites.specs.declared.site.Place.TheVariants.{Cell, Register}
-use Rattle.mutation_sites.specs.declared.site.Site.{Site}
-use Rattle.mutation_sites.specs.declared.readers.Readers.{Readers}
+use Rattle.mutation_sites.proofs.Common.{◌≡◌, ℕ, zero, suc, ◌+◌, ◌%◌, ◌<◌, ◌≤◌, List, [], ◌∷◌, ◌++◌, length, get_or, slice_get, Option, ◌⊎◌, inl, inr, refl, sym, ap, subst, ◌∙◌, arith, cases_lt}
+use Rattle.mutation_sites.proofs.Common.{eqb_tells, Span, Bit, Fixed, Net, Gate, RawNetlist, Port, input_ports, output_port, times, times_at, drivers, readers, ports_of, Reads, ReadsThrough, IsOnLoop}
+use Rattle.mutation_sites.proofs.Common.{Never, Plan, IsSound, y-one, y-two, Mode, Inv, Const0, Const1, Cnot0, Cnot1, Place, Cell, Register, Site, Readers, Change, Nothing, port_at, readers_of_bit}
+use Rattle.mutation_sites.proofs.Common.{readers_at, change_of, connected, ports_connected, cells_connected, new_bit, new_cells, bit_of, control_of, span_at, mutant_of}
+use Rattle.netlist_core.proofs.Reading.{cell-reads, driver-inside, way-inside, through_more}
 use Rattle.mutation_sites.specs.declared.readers.Readers.TheVariants.{Nobody, OfPort, OfNext, OfNet}
-use Rattle.mutation_sites.specs.declared.readers.Change.{Change}
-use Rattle.mutation_sites.specs.declared.readers.Change.TheVariants.{Nothing}
-use Rattle.mutation_sites.specs.Mutants.{port_at, readers_of_bit, readers_at, change_of}
-use Rattle.mutation_sites.specs.Wiring.{connected, ports_connected, cells_connected, new_bit, new_cells, bit_of, control_of, span_at, mutant_of}
 use Rattle.mutation_sites.proofs.Alike.{output-same}
 use Rattle.mutation_sites.proofs.More.{length-cells, new-few}
-use Rattle.mutation_sites.proofs.Unread.{times-self, some-of, bit-has, cell-reads, last-port, q-has, place-has, reader-inside, driver-inside, unread}
+use Rattle.mutation_sites.proofs.Unread.{times-self, bit-has, last-port, q-has, place-has, unread}
 use Rattle.mutation_sites.proofs.Kept.{Tapped, connected-cases, new-other}
+use Rattle.netlist_core.proofs.Sources.{some-of}
 
 -- Who reads the new net.
 
@@ -281,7 +264,7 @@ read-cases : (netlist : RawNetlist) (site : Site) (fresh c d : ℕ) → Reads (m
 read-cases netlist site fresh c d read = inside-cases netlist site fresh d (driver-inside (mutant_of netlist site fresh).cells d read.0 read.2)
 
 -- a way from an old cell to an old cell, without the new one
-shorter : (plan : Plan) (site : Site) (fresh : ℕ) → IsFresh plan fresh → (c : ℕ) (between : List ℕ) (e : ℕ) → c < length plan.raw.cells → e < length plan.raw.cells → ReadsThrough (mutant_of plan.raw site fresh) c between e → (rest : List ℕ) × ReadsThrough plan.raw c rest e
+shorter : (plan : Plan) (site : Site) (fresh : ℕ) → IsFresh plan fresh → (c : ℕ) (between : List ℕ) (e : ℕ) → c < length plan.raw.cells → e < length plan.raw.cells → ReadsThrough (Reads (mutant_of plan.raw site fresh)) c between e → (rest : List ℕ) × ReadsThrough (Reads plan.raw) c rest e
 shorter plan site fresh is c [] e first last way = ([], reads-old plan site fresh is c e first last way)
 shorter plan site fresh is c (d ∷ []) e first last way = elim (read-cases plan.raw site fresh c d way.0) [
   | inl old ↦ (d ∷ [], (reads-old plan site fresh is c d first old way.0, reads-old plan site fresh is d e old last way.1))
@@ -305,31 +288,21 @@ shorter plan site fresh is c (d ∷ f ∷ more) e first last way = elim (read-ca
       ])
 ]
 
--- a way, and one step more
-longer : (netlist : RawNetlist) (c : ℕ) (between : List ℕ) (e f : ℕ) → ReadsThrough netlist c between e → Reads netlist e f → ReadsThrough netlist c (between ++ e ∷ []) f
-longer netlist c [] e f way step = (way, step)
-longer netlist c (d ∷ more) e f way step = (way.0, longer netlist d more e f way.1 step)
-
 -- the new cell is on no loop
-last-no_loop : (plan : Plan) (site : Site) (fresh : ℕ) → IsFresh plan fresh → (between : List ℕ) → ¬ ReadsThrough (mutant_of plan.raw site fresh) (length plan.raw.cells) between (length plan.raw.cells)
+last-no_loop : (plan : Plan) (site : Site) (fresh : ℕ) → IsFresh plan fresh → (between : List ℕ) → ¬ ReadsThrough (Reads (mutant_of plan.raw site fresh)) (length plan.raw.cells) between (length plan.raw.cells)
 last-no_loop plan site fresh is [] way = last-self plan site fresh is way
 last-no_loop plan site fresh is (d ∷ more) way = elim (read-cases plan.raw site fresh (length plan.raw.cells) d way.0) [
   | inl old ↦ (
-      let round = longer (mutant_of plan.raw site fresh) d more (length plan.raw.cells) d way.1 way.0 in
+      let round = through_more (Reads (mutant_of plan.raw site fresh)) d more (length plan.raw.cells) d way.1 way.0 in
       let rest = shorter plan site fresh is d (more ++ length plan.raw.cells ∷ []) d old old round in
       is.sound.loops d (rest.0, rest.1))
   | inr again ↦ last-self plan site fresh is (subst (λ (k : ℕ). Reads (mutant_of plan.raw site fresh) (length plan.raw.cells) k) (sym again) way.0)
 ]
 
--- the first cell of a way is a cell
-way-inside : (netlist : RawNetlist) (c : ℕ) (between : List ℕ) (e : ℕ) → ReadsThrough netlist c between e → c < length netlist.cells
-way-inside netlist c [] e way = reader-inside netlist.cells c way.0 way.1
-way-inside netlist c (d ∷ more) e way = reader-inside netlist.cells c way.0.0 way.0.1
-
-pub loops-kept : (plan : Plan) → IsSound plan → (site : Site) (fresh : ℕ) → drivers plan.raw fresh ≡ 0 → Never (IsOnLoop (mutant_of plan.raw site fresh))
+pub loops-kept : (plan : Plan) → IsSound plan → (site : Site) (fresh : ℕ) → drivers plan.raw fresh ≡ 0 → Never (IsOnLoop (Reads (mutant_of plan.raw site fresh)))
 loops-kept plan sound site fresh none c loop =
     let is : IsFresh plan fresh = record { sound = sound; none = none } in
     elim (inside-cases plan.raw site fresh c (way-inside (mutant_of plan.raw site fresh) c loop.0 c loop.1)) [
       | inl old ↦ (let rest = shorter plan site fresh is c loop.0 c old old loop.1 in sound.loops c (rest.0, rest.1))
-      | inr new ↦ last-no_loop plan site fresh is loop.0 (subst (λ (k : ℕ). ReadsThrough (mutant_of plan.raw site fresh) k loop.0 k) (sym new) loop.1)
+      | inr new ↦ last-no_loop plan site fresh is loop.0 (subst (λ (k : ℕ). ReadsThrough (Reads (mutant_of plan.raw site fresh)) k loop.0 k) (sym new) loop.1)
     ]

@@ -1,29 +1,12 @@
 -- The runs of the parts of a mutant are runs of the netlist in which readers see the mutated bit.
-use Rattle.std.proofs.Common.{◌≡◌, ℕ, zero, suc, ◌+◌, ◌%◌, Bool, true, false, List, [], ◌∷◌, ◌++◌, map, length, get_or, slice_get, Some, refl, sym, ap, subst, ◌∙◌, inl, inr, arith}
-use Rattle.std.specs.Prelude.{not}
+use Rattle.mutation_sites.proofs.Common.{◌≡◌, ℕ, zero, suc, ◌+◌, ◌%◌, Bool, true, false, List, [], ◌∷◌, ◌++◌, map, length, get_or, slice_get, Some, refl, sym, ap, subst, ◌∙◌, inl, inr, arith, not}
+use Rattle.mutation_sites.proofs.Common.{eqb_tells, map-set, length-map, Span, Bit, Fixed, Net, Gate, Flop, RawNetlist, number, Not, Xor, Xnor, cell_value, Nets, Port, Next, Outputs, Sight, bit_value}
+use Rattle.mutation_sites.proofs.Common.{values, plain, bits_at, q_bits, input_ports, output_port, ports_seen, Computes, port_numbers, Holds, shown, taken, IsRun, IsRunBy, outputs_by, with_net, Mode}
+use Rattle.mutation_sites.proofs.Common.{Inv, Const0, Const1, Cnot0, Cnot1, Site, Readers, Change, Nothing, AtBit, AtNet, mutated, mutated_at, change_of, readers_at, port_at, seen, sight_at}
+use Rattle.mutation_sites.proofs.Common.{RunsAlike, replaced, connected, ports_connected, cell_connected, cells_connected, registers_connected, port_connected, new_bit, new_cells, bit_of, control_of}
+use Rattle.mutation_sites.proofs.Common.{span_at, mutant_of}
 use Rattle.std.proofs.Math.ListN.{get_or-map}
-use Rattle.std.proofs.lemmas.Bool.Decides.{eqb_tells}
-use Rattle.std.proofs.lemmas.List.{map-set, length-map}
-use Rattle.mcy_base.specs.declared.span.Span.{Span}
-use Rattle.netlist_core.specs.declared.bit.Bit.{Bit}
-use Rattle.netlist_core.specs.declared.bit.Bit.TheVariants.{Fixed, Net}
-use Rattle.netlist_core.specs.declared.cell.Cell.{Cell as Gate}
 use Rattle.netlist_core.specs.declared.port.Port as port
-use Rattle.netlist_core.specs.declared.port.Register.{Register as Flop}
-use Rattle.netlist_core.specs.declared.raw.RawNetlist.{RawNetlist}
-use Rattle.netlist_core.specs.Numbers.{number}
-use Rattle.netlist_core.specs.declared.cell.CellKind.TheVariants.{Not, Xor, Xnor}
-use Rattle.netlist_core.specs.Cells.{cell_value}
-use Rattle.netlist_core.specs.Runs.{Nets, Port, Next, Outputs, Sight, bit_value, values, plain, bits_at, q_bits, input_ports, output_port, ports_seen, Computes, port_numbers, Holds, shown, taken, IsRun, IsRunBy, outputs_by}
-use Rattle.netlist_core.specs.Settled.{with_net}
-use Rattle.mutation_sites.specs.declared.mode.Mode.{Mode}
-use Rattle.mutation_sites.specs.declared.mode.Mode.TheVariants.{Inv, Const0, Const1, Cnot0, Cnot1}
-use Rattle.mutation_sites.specs.declared.site.Site.{Site}
-use Rattle.mutation_sites.specs.declared.readers.Readers.{Readers}
-use Rattle.mutation_sites.specs.declared.readers.Change.{Change}
-use Rattle.mutation_sites.specs.declared.readers.Change.TheVariants.{Nothing, AtBit, AtNet}
-use Rattle.mutation_sites.specs.Mutants.{mutated, mutated_at, change_of, readers_at, port_at, seen, sight_at, RunsAlike}
-use Rattle.mutation_sites.specs.Wiring.{replaced, connected, ports_connected, cell_connected, cells_connected, registers_connected, port_connected, new_bit, new_cells, bit_of, control_of, span_at, mutant_of}
 
 -- what readers see where the mutated bit has this value
 abbrev pub see_by : Readers → Bool → Nets → Sight
@@ -89,12 +72,6 @@ extra-there readers new k [] cell = refl
 extra-there readers new k (first ∷ more) cell = extra-there readers new (k + 1) more cell
 
 -- The value of the new bit.
-
-one_bit : (y : Bool) → (b : Bool) → number (y ∷ []) ≡ number (b ∷ []) → y ≡ b
-one_bit true true h = refl
-one_bit false false h = refl
-one_bit true false h = absurd (omega (arith, h))
-one_bit false true h = absurd (omega (arith, h))
 
 not_value : (y b : Bool) → number (y ∷ []) ≡ cell_value Not false 1 ((b ∷ []) ∷ []) → y ≡ not b
 not_value true true h = absurd (omega (arith, h))

@@ -1,30 +1,11 @@
 -- Each run of the netlist in which readers see the mutated bit is one of the mutant, with the bit's value at the new net.
-use Rattle.std.proofs.Common.{◌≡◌, ◌≢◌, ℕ, zero, suc, ◌+◌, ◌%◌, Bool, true, false, List, [], ◌∷◌, map, length, slice_get, Some, inl, inr, refl, sym, ap, subst, ◌∙◌, arith}
-use Rattle.std.specs.Prelude.{slice_set}
-use Rattle.std.proofs.lemmas.Bool.Decides.{eqb_tells}
-use Rattle.mcy_base.specs.declared.span.Span.{Span}
-use Rattle.netlist_core.specs.declared.bit.Bit.{Bit}
-use Rattle.netlist_core.specs.declared.bit.Bit.TheVariants.{Fixed, Net}
-use Rattle.netlist_core.specs.declared.cell.Cell.{Cell as Gate}
-use Rattle.netlist_core.specs.declared.cell.CellKind.TheVariants.{Not, Xor, Xnor}
+use Rattle.mutation_sites.proofs.Common.{◌≡◌, ◌≢◌, ℕ, zero, suc, ◌+◌, ◌%◌, Bool, true, false, List, [], ◌∷◌, map, length, slice_get, Some, inl, inr, refl, sym, ap, subst, ◌∙◌, arith, slice_set}
+use Rattle.mutation_sites.proofs.Common.{eqb_tells, Span, Bit, Fixed, Net, Gate, Not, Xor, Xnor, Flop, RawNetlist, number, cell_value, Nets, Port, Next, Outputs, bit_value, values, plain, bits_at}
+use Rattle.mutation_sites.proofs.Common.{q_bits, d_bits, input_ports, output_port, ports_seen, Computes, port_numbers, Holds, shown, taken, IsRun, IsRunBy, outputs_by, times, times_at, drivers}
+use Rattle.mutation_sites.proofs.Common.{readers, with_net, Plan, IsSound, Mode, Inv, Const0, Const1, Cnot0, Cnot1, Site, Readers, Change, Nothing, AtBit, AtNet, mutated, mutated_value, change_of}
+use Rattle.mutation_sites.proofs.Common.{readers_at, port_at, seen, sight_at, with_mutated, HasEachRun, cell_connected, new_bit, new_cells, bit_of, control_of, span_at, mutant_of}
 use Rattle.netlist_core.specs.declared.port.Port as port
-use Rattle.netlist_core.specs.declared.port.Register.{Register as Flop}
-use Rattle.netlist_core.specs.declared.raw.RawNetlist.{RawNetlist}
-use Rattle.netlist_core.specs.Numbers.{number}
-use Rattle.netlist_core.specs.Cells.{cell_value}
-use Rattle.netlist_core.specs.Runs.{Nets, Port, Next, Outputs, bit_value, values, plain, bits_at, q_bits, d_bits, input_ports, output_port, ports_seen, Computes, port_numbers, Holds, shown, taken, IsRun, IsRunBy, outputs_by}
-use Rattle.netlist_core.specs.Drivers.{times, times_at, drivers, readers}
-use Rattle.netlist_core.specs.Settled.{with_net}
-use Rattle.netlist_core.specs.Checked.{Plan, IsSound}
 use Rattle.netlist_core.proofs.Settles.{values-agree, ports-agree, with_net-same, with_net-other}
-use Rattle.mutation_sites.specs.declared.mode.Mode.{Mode}
-use Rattle.mutation_sites.specs.declared.mode.Mode.TheVariants.{Inv, Const0, Const1, Cnot0, Cnot1}
-use Rattle.mutation_sites.specs.declared.site.Site.{Site}
-use Rattle.mutation_sites.specs.declared.readers.Readers.{Readers}
-use Rattle.mutation_sites.specs.declared.readers.Change.{Change}
-use Rattle.mutation_sites.specs.declared.readers.Change.TheVariants.{Nothing, AtBit, AtNet}
-use Rattle.mutation_sites.specs.Mutants.{mutated, mutated_value, change_of, readers_at, port_at, seen, sight_at, with_mutated, HasEachRun}
-use Rattle.mutation_sites.specs.Wiring.{cell_connected, new_bit, new_cells, bit_of, control_of, span_at, mutant_of}
 use Rattle.mutation_sites.proofs.Alike.{see_by, ports-seen, output-same, mutated_at-bits, q-same, taken-same, shown-same}
 use Rattle.mutation_sites.proofs.Unread.{times-self, apart, apart-ports, bit-has, ports-split, place-has, cell-has, unread, cell-cases}
 

@@ -1,23 +1,9 @@
 -- The parts of a mutant are formed: widths are as they were, and drivers are nets.
-use Rattle.std.proofs.Common.{◌≡◌, ℕ, ◌+◌, List, [], ◌∷◌, ◌++◌, map, length, refl, sym, subst, ◌∙◌, arith}
-use Rattle.std.proofs.lemmas.List.{length-set, length-map}
-use Rattle.mcy_base.specs.declared.span.Span.{Span}
-use Rattle.netlist_core.specs.declared.bit.Bit.{Bit}
-use Rattle.netlist_core.specs.declared.cell.Cell.{Cell as Gate}
+use Rattle.mutation_sites.proofs.Common.{◌≡◌, ℕ, ◌+◌, List, [], ◌∷◌, ◌++◌, map, length, refl, sym, subst, ◌∙◌, arith, length-set, length-map, Span, Bit, Gate, Flop, RawNetlist, Port, Next, bits_at}
+use Rattle.mutation_sites.proofs.Common.{y_bits, AllWide, AllNets, AllPortsNets, AllRegistersFit, AllCellsWide, IsFormed, Mode, Inv, Const0, Const1, Cnot0, Cnot1, Site, Readers, Change, Nothing}
+use Rattle.mutation_sites.proofs.Common.{AtBit, AtNet, change_of, readers_at, port_at, replaced, connected, ports_connected, cells_connected, registers_connected, port_connected, new_bit, new_cells}
+use Rattle.mutation_sites.proofs.Common.{bit_of, control_of, span_at, mutant_of}
 use Rattle.netlist_core.specs.declared.port.Port as port
-use Rattle.netlist_core.specs.declared.port.Register.{Register as Flop}
-use Rattle.netlist_core.specs.declared.raw.RawNetlist.{RawNetlist}
-use Rattle.netlist_core.specs.Runs.{Port, Next, bits_at}
-use Rattle.netlist_core.specs.Drivers.{y_bits}
-use Rattle.netlist_core.specs.Checked.{AllWide, AllNets, AllPortsNets, AllRegistersFit, AllCellsWide, IsFormed}
-use Rattle.mutation_sites.specs.declared.mode.Mode.{Mode}
-use Rattle.mutation_sites.specs.declared.mode.Mode.TheVariants.{Inv, Const0, Const1, Cnot0, Cnot1}
-use Rattle.mutation_sites.specs.declared.site.Site.{Site}
-use Rattle.mutation_sites.specs.declared.readers.Readers.{Readers}
-use Rattle.mutation_sites.specs.declared.readers.Change.{Change}
-use Rattle.mutation_sites.specs.declared.readers.Change.TheVariants.{Nothing, AtBit, AtNet}
-use Rattle.mutation_sites.specs.Mutants.{change_of, readers_at, port_at}
-use Rattle.mutation_sites.specs.Wiring.{replaced, connected, ports_connected, cells_connected, registers_connected, port_connected, new_bit, new_cells, bit_of, control_of, span_at, mutant_of}
 use Rattle.mutation_sites.proofs.Alike.{output-same, q-same}
 
 pub length-connected : (change : Change) (new : Bit) (bits : List Bit) → length (connected change new bits) ≡ length bits

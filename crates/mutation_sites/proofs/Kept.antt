@@ -1,30 +1,14 @@
 -- A mutant passes the tests on sizes, shapes, drivers and readers.
-use Rattle.std.proofs.Common.{◌≡◌, ◌≢◌, ℕ, zero, suc, ◌+◌, ◌%◌, ◌≤◌, false, List, [], ◌∷◌, ◌++◌, map, length, set, slice_get, Option, None, Some, ◌⊎◌, inl, inr, refl, sym, ap, subst, arith}
-use Rattle.std.proofs.lemmas.Bool.{cases_lt}
-use Rattle.std.proofs.lemmas.Bool.Decides.{eqb_tells}
-use Rattle.mcy_base.specs.declared.span.Span.{Span}
-use Rattle.netlist_core.specs.declared.bit.Bit.{Bit}
-use Rattle.netlist_core.specs.declared.bit.Bit.TheVariants.{Fixed, Net}
-use Rattle.netlist_core.specs.declared.cell.Cell.{Cell as Gate}
-use Rattle.netlist_core.specs.declared.cell.CellKind.TheVariants.{Not, Xor, Xnor}
+use Rattle.mutation_sites.proofs.Common.{◌≡◌, ◌≢◌, ℕ, zero, suc, ◌+◌, ◌%◌, ◌≤◌, false, List, [], ◌∷◌, ◌++◌, map, length, set, slice_get, Some, ◌⊎◌, inl, inr, refl, sym, ap, subst, arith, cases_lt}
+use Rattle.mutation_sites.proofs.Common.{eqb_tells, Span, Bit, Fixed, Net, Gate, Not, Xor, Xnor, Flop, RawNetlist, Port, Next, Outputs, bits_at, d_bits, input_ports, output_port, times, times_at}
+use Rattle.mutation_sites.proofs.Common.{y_bits, drivers, cell_readers, readers, HasTwoDrivers, IsUndriven, shape_of, HasWidths, HasShape, widths, all_bits, net_bits, IsMisshapen, Never, Plan}
+use Rattle.mutation_sites.proofs.Common.{IsSound, not-misshapen, Mode, Inv, Const0, Const1, Cnot0, Cnot1, Site, Readers, Change, Nothing, AtBit, AtNet, change_of, readers_at, port_at, replaced}
+use Rattle.mutation_sites.proofs.Common.{connected, ports_connected, cell_connected, cells_connected, registers_connected, port_connected, new_bit, new_cells, bit_of, control_of, span_at, mutant_of}
 use Rattle.netlist_core.specs.declared.port.Port as port
-use Rattle.netlist_core.specs.declared.port.Register.{Register as Flop}
-use Rattle.netlist_core.specs.declared.raw.RawNetlist.{RawNetlist}
-use Rattle.netlist_core.specs.Runs.{Port, Next, Outputs, bits_at, d_bits, input_ports, output_port}
-use Rattle.netlist_core.specs.Drivers.{times, times_at, y_bits, drivers, cell_readers, readers, HasTwoDrivers, IsUndriven}
-use Rattle.netlist_core.specs.Shapes.{shape_of, HasWidths, HasShape, widths}
-use Rattle.netlist_core.specs.Checked.{all_bits, net_bits, HasBadShape, IsMisshapen, Never, Plan, IsSound}
-use Rattle.mutation_sites.specs.declared.mode.Mode.{Mode}
-use Rattle.mutation_sites.specs.declared.mode.Mode.TheVariants.{Inv, Const0, Const1, Cnot0, Cnot1}
-use Rattle.mutation_sites.specs.declared.site.Site.{Site}
-use Rattle.mutation_sites.specs.declared.readers.Readers.{Readers}
-use Rattle.mutation_sites.specs.declared.readers.Change.{Change}
-use Rattle.mutation_sites.specs.declared.readers.Change.TheVariants.{Nothing, AtBit, AtNet}
-use Rattle.mutation_sites.specs.Mutants.{change_of, readers_at, port_at}
-use Rattle.mutation_sites.specs.Wiring.{replaced, connected, ports_connected, cell_connected, cells_connected, registers_connected, port_connected, new_bit, new_cells, bit_of, control_of, span_at, mutant_of}
 use Rattle.mutation_sites.proofs.Alike.{output-same, q-same}
 use Rattle.mutation_sites.proofs.Formed.{length-connected}
-use Rattle.mutation_sites.proofs.Unread.{times-self, times-other, times-cons, some-of, bit-has, place-has, unread, cell-cases}
+use Rattle.mutation_sites.proofs.Unread.{times-self, times-other, times-cons, bit-has, place-has, unread, cell-cases}
+use Rattle.netlist_core.proofs.Sources.{some-of}
 
 -- Net bits: at most one more.
 
@@ -61,7 +45,7 @@ bits-kept netlist site fresh =
 
 -- Shapes.
 
-widths-same : (readers : Readers) (new : Bit) (c p : ℕ) (ports : List (List Bit)) → widths (ports_connected readers new c p ports) ≡ widths ports
+pub widths-same : (readers : Readers) (new : Bit) (c p : ℕ) (ports : List (List Bit)) → widths (ports_connected readers new c p ports) ≡ widths ports
 widths-same readers new c p [] = refl
 widths-same readers new c p (y ∷ []) = refl
 widths-same readers new c p (a ∷ b ∷ more) =
@@ -91,9 +75,8 @@ new-shape Cnot1 bit control fresh span (suc j) got is = absurd (cc)
 connected-shape : (readers : Readers) (new : Bit) (c : ℕ) (cell : Gate) → HasShape cell → HasShape (cell_connected readers new c cell)
 connected-shape readers new c cell shape = subst (HasWidths (shape_of cell.kind)) (sym (widths-same readers new c 0 cell.ports)) shape
 
-shape-at : (plan : Plan) → IsSound plan → (site : Site) (fresh c : ℕ) (o : Option Gate) → slice_get (mutant_of plan.raw site fresh).cells c ≡ o → ¬ HasBadShape o
-shape-at plan sound site fresh c None is bad = bad
-shape-at plan sound site fresh c (Some got) is bad =
+shape-at : (plan : Plan) → IsSound plan → (site : Site) (fresh c : ℕ) (got : Gate) → slice_get (mutant_of plan.raw site fresh).cells c ≡ Some got → HasShape got
+shape-at plan sound site fresh c got is =
     let netlist = plan.raw in
     let bits = port_at netlist site.place site.port in
     let bit = bit_of bits site.bit in
@@ -102,12 +85,12 @@ shape-at plan sound site fresh c (Some got) is bad =
     let readers = readers_at netlist site.place site.port site.bit in
     let new = new_bit site.mode fresh in
     elim (cell-cases readers new 0 c netlist.cells (new_cells site.mode bit control fresh span) got is) [
-      | inl old ↦ sound.connected.driven.shaped.shapes c (subst HasBadShape (sym old.1) (λ shape. bad (subst HasShape old.2 (connected-shape readers new (0 + c) old.0 shape))))
-      | inr added ↦ bad (new-shape site.mode bit control fresh span added.0 got added.2)
+      | inl old ↦ subst HasShape old.2 (connected-shape readers new (0 + c) old.0 (sound.connected.driven.shaped.shapes c old.0 old.1))
+      | inr added ↦ new-shape site.mode bit control fresh span added.0 got added.2
     ]
 
 pub shapes-kept : (plan : Plan) → IsSound plan → (site : Site) (fresh : ℕ) → Never (IsMisshapen (mutant_of plan.raw site fresh))
-shapes-kept plan sound site fresh c = shape-at plan sound site fresh c (slice_get (mutant_of plan.raw site fresh).cells c) refl
+shapes-kept plan sound site fresh c = not-misshapen (slice_get (mutant_of plan.raw site fresh).cells c) (shape-at plan sound site fresh c)
 
 -- Drivers: the new cell drives the new net alone.
 

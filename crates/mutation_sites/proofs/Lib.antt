@@ -1,3 +1,4 @@
+mod Common
 mod Listed
 mod Ports
 mod Totals

@@ -1,22 +1,11 @@
 -- A mutant has the netlist's names and widths, Q's and kinds of cells, and at most one cell more, the last.
-use Rattle.std.proofs.Common.{◌≡◌, ℕ, ◌+◌, ◌≤◌, List, [], ◌∷◌, ◌++◌, map, take, length, refl, ap, arith}
-use Rattle.mcy_base.specs.declared.span.Span.{Span}
-use Rattle.netlist_core.specs.declared.bit.Bit.{Bit}
-use Rattle.netlist_core.specs.declared.cell.Cell.{Cell as Gate}
+use Rattle.mutation_sites.proofs.Common.{◌≡◌, ℕ, ◌+◌, ◌≤◌, List, [], ◌∷◌, ◌++◌, map, take, length, refl, ap, arith, Span, Bit, Gate, Flop, RawNetlist, Outputs, bits_at, Mode, Inv, Const0, Const1}
+use Rattle.mutation_sites.proofs.Common.{Cnot0, Cnot1, Site, Readers, Change, change_of, readers_at, port_at, HasOneMore, HasSameNames, port_connected, registers_connected, cells_connected, new_bit}
+use Rattle.mutation_sites.proofs.Common.{new_cells, bit_of, control_of, span_at, mutant_of}
 use Rattle.netlist_core.specs.declared.cell.CellKind.{CellKind}
 use Rattle.netlist_core.specs.declared.port.Port as port
-use Rattle.netlist_core.specs.declared.port.Register.{Register as Flop}
-use Rattle.netlist_core.specs.declared.raw.RawNetlist.{RawNetlist}
-use Rattle.netlist_core.specs.Runs.{Outputs, bits_at}
-use Rattle.mutation_sites.specs.declared.mode.Mode.{Mode}
-use Rattle.mutation_sites.specs.declared.mode.Mode.TheVariants.{Inv, Const0, Const1, Cnot0, Cnot1}
-use Rattle.mutation_sites.specs.declared.site.Site.{Site}
-use Rattle.mutation_sites.specs.declared.readers.Readers.{Readers}
-use Rattle.mutation_sites.specs.declared.readers.Change.{Change}
-use Rattle.mutation_sites.specs.Mutants.{change_of, readers_at, port_at, HasOneMore, HasSameNames}
 use Rattle.mutation_sites.proofs.Alike.{q-same}
 use Rattle.mutation_sites.proofs.Formed.{length-connected}
-use Rattle.mutation_sites.specs.Wiring.{port_connected, registers_connected, cells_connected, new_bit, new_cells, bit_of, control_of, span_at, mutant_of}
 
 kinds-first : (readers : Readers) (new : Bit) (c : ℕ) (cells extra : List Gate) → take (length cells) (map (λ (cell : Gate). cell.kind) (cells_connected readers new c cells ++ extra)) ≡ map (λ (cell : Gate). cell.kind) cells
 kinds-first readers new c [] extra = refl

@@ -1,12 +1,6 @@
 -- A netlist has no more nets than net bits.
-use Rattle.std.proofs.Common.{◌≡◌, ℕ, zero, suc, ◌+◌, ◌<◌, ◌≤◌, List, [], ◌∷◌, length, inl, inr, refl, sym, subst, arith}
-use Rattle.std.proofs.lemmas.Bool.Decides.{eqb_tells}
-use Rattle.netlist_core.specs.declared.bit.Bit.{Bit}
-use Rattle.netlist_core.specs.declared.bit.Bit.TheVariants.{Fixed, Net}
-use Rattle.netlist_core.specs.declared.raw.RawNetlist.{RawNetlist}
-use Rattle.netlist_core.specs.Runs.{bits_at, q_bits}
-use Rattle.netlist_core.specs.Drivers.{times, times_at, y_bits, drivers}
-use Rattle.netlist_core.specs.Checked.{all_bits, net_bits, Plan, IsSound}
+use Rattle.mutation_sites.proofs.Common.{◌≡◌, ℕ, zero, suc, ◌+◌, ◌<◌, ◌≤◌, List, [], ◌∷◌, length, inl, inr, refl, sym, subst, arith, eqb_tells, Bit, Fixed, Net, RawNetlist, bits_at, q_bits, times}
+use Rattle.mutation_sites.proofs.Common.{times_at, y_bits, drivers, all_bits, net_bits, Plan, IsSound}
 use Rattle.mutation_sites.proofs.Unread.{times-self, times-other, times-cons}
 
 -- the sum of a function over the numbers below this one

@@ -1,20 +1,8 @@
 -- At each listed site there is a bit.
-use Rattle.std.proofs.Common.{◌≡◌, ℕ, suc, ◌+◌, ◌<◌, ◌≤◌, List, [], ◌∷◌, ◌++◌, length, get_or, slice_get, Option, Some, refl, ap, ◌∙◌, arith}
-use Rattle.std.specs.List.{All}
+use Rattle.mutation_sites.proofs.Common.{◌≡◌, ℕ, suc, ◌+◌, ◌<◌, ◌≤◌, List, [], ◌∷◌, ◌++◌, length, get_or, slice_get, Option, Some, refl, ap, ◌∙◌, arith, All, Bit, Gate, Flop, RawNetlist, ports_of}
+use Rattle.mutation_sites.proofs.Common.{Mode, ModeSet, Place, Cell, Register, Site, modes_of, set_at, bit_sites, bits_sites, port_sites, ports_sites, cells_sites, registers_sites, sites}
+use Rattle.mutation_sites.proofs.Common.{register_port, port_at, IsSite}
 use Rattle.std.proofs.lemmas.List.Elements.{All-nil, All-append, All-map}
-use Rattle.netlist_core.specs.declared.bit.Bit.{Bit}
-use Rattle.netlist_core.specs.declared.cell.Cell.{Cell as Gate}
-use Rattle.netlist_core.specs.declared.port.Register.{Register as Flop}
-use Rattle.netlist_core.specs.declared.raw.RawNetlist.{RawNetlist}
-use Rattle.netlist_core.specs.Orders.{ports_of}
-use Rattle.mutation_sites.specs.declared.mode.Mode.{Mode}
-use Rattle.mutation_sites.specs.declared.mode.ModeSet.{ModeSet}
-use Rattle.mutation_sites.specs.declared.site.Place.{Place}
-use Rattle.mutation_sites.specs.declared.site.Place.TheVariants.{Cell, Register}
-use Rattle.mutation_sites.specs.declared.site.Site.{Site}
-use Rattle.mutation_sites.specs.Modes.{modes_of, set_at}
-use Rattle.mutation_sites.specs.Sites.{bit_sites, bits_sites, port_sites, ports_sites, cells_sites, registers_sites, sites}
-use Rattle.mutation_sites.specs.Mutants.{register_port, port_at, IsSite}
 
 -- a site at a port, at a bit below a number
 abbrev IsAt : Place → ℕ → ℕ → Site → Type 0

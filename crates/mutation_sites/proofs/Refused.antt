@@ -1,12 +1,8 @@
 -- A mutant is refused for want of memory alone.
-use Rattle.std.proofs.Common.{◌≡◌, ℕ, ◌≤◌, length, refl, arith}
+use Rattle.mutation_sites.proofs.Common.{◌≡◌, ℕ, ◌≤◌, length, refl, arith, drivers, net_bits, IsRefused, Plan, IsSound, Site, mutant_of}
 use Rattle.mcy_base.specs.declared.kind.Kind.TheVariants.{Tokens, LoopTurns, Cells, NetBits, RegisterBits, Sites, Gates, FreeBits, Scopes}
 use Rattle.netlist_core.specs.declared.netlist.NetError.{NetError}
 use Rattle.netlist_core.specs.declared.netlist.NetError.TheVariants.{TooMany, BadShape, TwoDrivers, Undriven, Loop, Memory}
-use Rattle.netlist_core.specs.Drivers.{drivers}
-use Rattle.netlist_core.specs.Checked.{net_bits, IsRefused, Plan, IsSound}
-use Rattle.mutation_sites.specs.declared.site.Site.{Site}
-use Rattle.mutation_sites.specs.Wiring.{mutant_of}
 use Rattle.mutation_sites.proofs.More.{has-one-more}
 use Rattle.mutation_sites.proofs.Kept.{bits-kept, shapes-kept, single-kept, reads-kept}
 use Rattle.mutation_sites.proofs.Acyclic.{loops-kept}

@@ -1,26 +1,7 @@
 -- The cells of a mutant have the kinds and widths of its netlist's, and one more drives the mutated bit.
-use Rattle.std.proofs.Common.{◌≡◌, ℕ, ◌+◌, List, [], ◌∷◌, ◌++◌, map, refl, ap, ◌∙◌}
-use Rattle.mcy_base.specs.declared.span.Span.{Span}
-use Rattle.netlist_core.specs.declared.bit.Bit.{Bit}
-use Rattle.netlist_core.specs.declared.cell.Cell.{Cell as Gate}
-use Rattle.netlist_core.specs.declared.raw.RawNetlist.{RawNetlist}
-use Rattle.netlist_core.specs.Runs.{Port}
-use Rattle.netlist_core.specs.Shapes.{widths}
-use Rattle.mutation_sites.specs.declared.mode.Mode.{Mode}
-use Rattle.mutation_sites.specs.declared.mode.Mode.TheVariants.{Inv, Const0, Const1, Cnot0, Cnot1}
-use Rattle.mutation_sites.specs.declared.site.Site.{Site}
-use Rattle.mutation_sites.specs.declared.readers.Readers.{Readers}
-use Rattle.mutation_sites.specs.Mutants.{change_of, readers_at, port_at, CellShape, cell_shape, driver_shapes, HasSameShapes}
-use Rattle.mutation_sites.specs.Wiring.{ports_connected, cells_connected, new_bit, new_cells, bit_of, control_of, span_at, mutant_of}
-use Rattle.mutation_sites.proofs.Formed.{length-connected}
-
-widths-same : (readers : Readers) (new : Bit) (c p : ℕ) (ports : List (List Bit)) → widths (ports_connected readers new c p ports) ≡ widths ports
-widths-same readers new c p [] = refl
-widths-same readers new c p (y ∷ []) = refl
-widths-same readers new c p (a ∷ b ∷ more) =
-    let first = length-connected (change_of readers (Port c p)) new a in
-    let rest = widths-same readers new c (p + 1) (b ∷ more) in
-    λ i. first i ∷ rest i
+use Rattle.mutation_sites.proofs.Common.{◌≡◌, ℕ, ◌+◌, List, [], ◌∷◌, ◌++◌, map, refl, ap, ◌∙◌, Span, Bit, Gate, RawNetlist, widths, Mode, Inv, Const0, Const1, Cnot0, Cnot1, Site, Readers, readers_at}
+use Rattle.mutation_sites.proofs.Common.{port_at, CellShape, cell_shape, driver_shapes, HasSameShapes, ports_connected, cells_connected, new_bit, new_cells, bit_of, control_of, span_at, mutant_of}
+use Rattle.mutation_sites.proofs.Kept.{widths-same}
 
 shapes-same : (readers : Readers) (new : Bit) (c : ℕ) (cells extra : List Gate) → map cell_shape (cells_connected readers new c cells ++ extra) ≡ map cell_shape cells ++ map cell_shape extra
 shapes-same readers new c [] extra = refl

@@ -1,22 +1,10 @@
 -- How many sites a netlist has: what is counted is the length of the list, and a sound netlist has few.
-use Rattle.std.proofs.Common.{◌≡◌, ℕ, suc, ◌+◌, ◌*◌, ◌≤◌, Bool, true, false, List, [], ◌∷◌, ◌++◌, length, refl, ◌∙◌, arith}
+use Rattle.mutation_sites.proofs.Common.{◌≡◌, ℕ, suc, ◌+◌, ◌*◌, ◌≤◌, Bool, true, false, List, [], ◌∷◌, ◌++◌, length, refl, ◌∙◌, arith, length-append, length-map, Bit, Gate, Flop, RawNetlist, q_bits}
+use Rattle.mutation_sites.proofs.Common.{HasShape, all_bits, AllWide, AllCellsWide, AllRegistersFit, Plan, IsSound, Mode, ModeSet, Place, Cell, Register, is_in, all_modes, modes_of, set_at, bit_sites}
+use Rattle.mutation_sites.proofs.Common.{bits_sites, port_sites, ports_sites, cells_sites, registers_sites, sites, port_count, ports_count, cells_count, registers_count, filter}
 use Rattle.std.proofs.Math.Nat.{mul-le-mul_left}
-use Rattle.std.proofs.lemmas.List.{length-append, length-map}
-use Rattle.netlist_core.specs.declared.bit.Bit.{Bit}
-use Rattle.netlist_core.specs.declared.cell.Cell.{Cell as Gate}
-use Rattle.netlist_core.specs.declared.port.Register.{Register as Flop}
-use Rattle.netlist_core.specs.declared.raw.RawNetlist.{RawNetlist}
-use Rattle.netlist_core.specs.Runs.{q_bits}
-use Rattle.netlist_core.specs.Checked.{all_bits, AllWide, AllCellsWide, AllRegistersFit, HasBadShape, Plan, IsSound}
-use Rattle.mutation_sites.specs.declared.mode.Mode.{Mode}
-use Rattle.mutation_sites.specs.declared.mode.ModeSet.{ModeSet}
-use Rattle.mutation_sites.specs.declared.site.Place.{Place}
-use Rattle.mutation_sites.specs.declared.site.Place.TheVariants.{Cell, Register}
-use Rattle.mutation_sites.specs.Modes.{is_in, all_modes, modes_of, set_at}
-use Rattle.mutation_sites.specs.Sites.{bit_sites, bits_sites, port_sites, ports_sites, cells_sites, registers_sites, sites}
-use Rattle.mutation_sites.specs.Counts.{port_count, ports_count, cells_count, registers_count}
 use Rattle.mutation_sites.proofs.Ports.{few-ports}
-use Rattle.std.specs.Prelude.{filter, slice_get}
+use Rattle.std.specs.Prelude.{slice_get, Some}
 
 -- What is counted is the length.
 
@@ -70,10 +58,10 @@ ports-few : (set : ModeSet) (ports : List (List Bit)) → AllWide ports → port
 ports-few set [] all = omega arith
 ports-few set (bits ∷ more) all = omega (arith, port-few set bits, all.1, ports-few set more all.2)
 
-cells-few : (set : ModeSet) (cells : List Gate) → AllCellsWide cells → ((c : ℕ) → ¬ (HasBadShape (slice_get cells c))) → cells_count set cells ≤ length cells * 2560
+cells-few : (set : ModeSet) (cells : List Gate) → AllCellsWide cells → ((c : ℕ) (cell : Gate) → slice_get cells c ≡ Some cell → HasShape cell) → cells_count set cells ≤ length cells * 2560
 cells-few set [] all shapes = omega arith
 cells-few set (cell ∷ more) all shapes =
-    omega (arith, ports-few set cell.ports all.0, few-ports cell (shapes 0), cells-few set more all.1 (λ c. shapes (suc c)))
+    omega (arith, ports-few set cell.ports all.0, few-ports cell (shapes 0 cell refl), cells-few set more all.1 (λ c. shapes (suc c)))
 
 registers-few : (set : ModeSet) (registers : List Flop) → AllRegistersFit registers → registers_count set registers ≤ all_bits (q_bits registers) * 10
 registers-few set [] fit = omega arith

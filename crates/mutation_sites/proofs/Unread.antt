@@ -1,22 +1,8 @@
 -- A number that nothing drives stands at no port.
-use Rattle.std.proofs.Common.{◌≡◌, ◌≢◌, ℕ, zero, suc, ◌+◌, ◌<◌, ◌≤◌, List, [], ◌∷◌, ◌++◌, length, get_or, slice_get, Option, Some, ◌⊎◌, false, inl, inr, refl, sym, ap, subst, ◌∙◌, arith}
-use Rattle.std.proofs.lemmas.Bool.{cases_lt}
-use Rattle.std.proofs.lemmas.Bool.Decides.{eqb_tells}
-use Rattle.netlist_core.specs.declared.bit.Bit.{Bit}
-use Rattle.netlist_core.specs.declared.bit.Bit.TheVariants.{Fixed, Net}
-use Rattle.netlist_core.specs.declared.cell.Cell.{Cell as Gate}
-use Rattle.netlist_core.specs.declared.port.Register.{Register as Flop}
-use Rattle.netlist_core.specs.declared.raw.RawNetlist.{RawNetlist}
-use Rattle.netlist_core.specs.Runs.{q_bits, d_bits, input_ports, output_port}
-use Rattle.netlist_core.specs.Drivers.{times, times_at, drivers, cell_readers, readers}
-use Rattle.netlist_core.specs.Orders.{ports_of}
-use Rattle.netlist_core.specs.Checked.{Plan, IsSound}
-use Rattle.netlist_core.proofs.Owners.{y-one}
-use Rattle.mutation_sites.specs.declared.site.Place.{Place}
-use Rattle.mutation_sites.specs.declared.site.Place.TheVariants.{Cell, Register}
-use Rattle.mutation_sites.specs.Mutants.{register_port, port_at}
-use Rattle.mutation_sites.specs.Wiring.{cell_connected, cells_connected}
-use Rattle.mutation_sites.specs.declared.readers.Readers.{Readers}
+use Rattle.mutation_sites.proofs.Common.{◌≡◌, ◌≢◌, ℕ, zero, suc, ◌+◌, ◌≤◌, List, [], ◌∷◌, ◌++◌, length, get_or, slice_get, Option, Some, ◌⊎◌, false, inl, inr, refl, sym, ap, subst, ◌∙◌, arith}
+use Rattle.mutation_sites.proofs.Common.{cases_lt, eqb_tells, Bit, Fixed, Net, Gate, Flop, RawNetlist, q_bits, d_bits, input_ports, output_port, times, times_at, drivers, readers, ports_of, Plan}
+use Rattle.mutation_sites.proofs.Common.{IsSound, y-one, Place, Cell, Register, register_port, port_at, cell_connected, cells_connected, Readers}
+use Rattle.netlist_core.proofs.Reading.{cell-reads}
 
 -- Numbers among bits.
 
@@ -29,10 +15,6 @@ times-other m n apart = elim (eqb_tells m n) [ inl same ↦ absurd (apart same.1
 pub times-cons : (n : ℕ) (b : Bit) (more : List Bit) → times n (b ∷ more) ≡ times n (b ∷ []) + times n more
 times-cons n (Fixed v) more = omega arith
 times-cons n (Net m) more = omega arith
-
-pub some-of : (a b : ℕ) → 1 ≤ a + b → (1 ≤ a) ⊎ (1 ≤ b)
-some-of zero b h = inr (omega (arith, h))
-some-of (suc a) b h = inl (omega arith)
 
 -- a number that isn't among the bits is not one that is
 pub apart : (n m : ℕ) (bits : List Bit) → times n bits ≡ 0 → 1 ≤ times m bits → m ≢ n
@@ -68,11 +50,6 @@ last-port (y ∷ []) (suc p) d is = absurd (omega (arith, is))
 last-port (a ∷ b ∷ more) zero d is = absurd (omega (arith, is))
 last-port (a ∷ b ∷ more) (suc p) d is = last-port (b ∷ more) p d (omega (arith, is))
 
-pub cell-reads : (cells : List Gate) (c n : ℕ) → times_at n (input_ports (ports_of (slice_get cells c))) ≤ cell_readers cells n
-cell-reads [] c n = omega arith
-cell-reads (cell ∷ more) zero n = omega arith
-cell-reads (cell ∷ more) (suc c) n = let rest = cell-reads more c n in omega (arith, rest)
-
 register-has : (n : ℕ) (registers : List Flop) (r p : ℕ) → times n (register_port (slice_get registers r) p) ≤ times_at n (d_bits registers) + times_at n (q_bits registers)
 register-has n [] r p = omega arith
 register-has n (register ∷ more) zero zero = omega arith
@@ -83,17 +60,6 @@ pub q-has : (n : ℕ) (registers : List Flop) (r p : ℕ) → times n (register_
 q-has n [] r p = omega arith
 q-has n (register ∷ more) zero p = omega arith
 q-has n (register ∷ more) (suc r) p = let rest = q-has n more r p in omega (arith, rest)
-
--- a cell with a bit is one of the cells
-pub reader-inside : (cells : List Gate) (c n : ℕ) → 1 ≤ times_at n (input_ports (ports_of (slice_get cells c))) → c < length cells
-reader-inside [] c n h = absurd (omega (arith, h))
-reader-inside (cell ∷ more) zero n h = omega arith
-reader-inside (cell ∷ more) (suc c) n h = let rest = reader-inside more c n h in omega (arith, rest)
-
-pub driver-inside : (cells : List Gate) (c n : ℕ) → 1 ≤ times n (output_port (ports_of (slice_get cells c))) → c < length cells
-driver-inside [] c n h = absurd (omega (arith, h))
-driver-inside (cell ∷ more) zero n h = omega arith
-driver-inside (cell ∷ more) (suc c) n h = let rest = driver-inside more c n h in omega (arith, rest)
 
 -- what stands at a place is driven or read
 pub place-has : (netlist : RawNetlist) (place : Place) (p n : ℕ) → times n (port_at netlist place p) ≤ drivers netlist n + readers netlist n

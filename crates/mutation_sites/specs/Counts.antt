@@ -6,6 +6,8 @@ use Rattle.netlist_core.specs.declared.port.Register.{Register}
 use Rattle.mutation_sites.specs.declared.mode.ModeSet.{ModeSet}
 use Rattle.mutation_sites.specs.Modes.{modes_of, set_at}
 
+-- For proofs alone.
+
 abbrev pub port_count : ModeSet → List Bit → ℕ
 port_count set bits = length bits * length (modes_of (set_at set (length bits)))
 

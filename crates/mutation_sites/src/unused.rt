@@ -5,10 +5,10 @@
 ghost use Rattle.std.specs.Prelude.{◌≡◌, nat_lt};
 ghost use Rattle.netlist_core.specs.Checked.{IsSound, IsFirst};
 ghost use Rattle.netlist_core.specs.Drivers.{times, times_at, y_bits, drivers};
-ghost use Rattle.netlist_core.specs.Runs.{bits_at, q_bits, output_port};
+ghost use Rattle.netlist_core.specs.Runs.{bits_at, q_bits};
 ghost use Rattle.mutation_sites.specs.Wiring.{IsNewNet};
 
-use netlist_core::{Bit, BitList, Cell, Netlist, Port, RawNetlist, Register};
+use netlist_core::{Bit, Cell, Netlist, Port, RawNetlist, Register, output_port};
 
 /// The number of a new net.
 pub(crate) fn unused_net(netlist: &Netlist) -> u32
@@ -71,21 +71,11 @@ fn is_at_y(cells: &[Cell], net: u32) -> bool
     ensures { result ≡ nat_lt 0 (times_at net (y_bits cells.now)) }
 {
     for cell in cells {
-        if is_among(output(cell.ports.as_slice()), net) {
+        if is_among(output_port(cell.ports.as_slice()), net) {
             return true;
         }
     }
     false
-}
-
-/// The last port: Y.
-fn output(ports: &[BitList]) -> &[Bit]
-    ensures { result.now ≡ output_port ports.now }
-{
-    if ports.is_empty() {
-        return &[];
-    }
-    ports[ports.len() - 1].as_slice()
 }
 
 /// The net is one of the bits.

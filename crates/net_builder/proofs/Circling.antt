@@ -1,13 +1,6 @@
 -- Going round loops.
-use Rattle.std.proofs.Common.{◌≡◌, ℕ, zero, suc, ◌+◌, ◌<◌, ◌≤◌, min, Bool, true, false, List, [], ◌∷◌, length, set, replicate, ◌⊎◌, inl, inr, sym, ◌∙◌, ap, subst, if◌then◌else◌, arith}
-use Rattle.std.proofs.lemmas.Bool.{false≢true}
-use Rattle.std.proofs.lemmas.Bool.Decides.{eqb_tells}
-use Rattle.std.proofs.lemmas.List.{get_or-set_same, get_or-set_other}
-use Rattle.net_builder.specs.declared.steps.Step.{Step}
-use Rattle.net_builder.specs.declared.steps.Step.TheVariants.{Stays, On}
-use Rattle.net_builder.specs.Finished.{Follows, IsOnLoop}
-use Rattle.net_builder.specs.Stepping.{next_in}
-use Rattle.net_builder.specs.Rounds.{seen_in, IsRound, IsClosed}
+use Rattle.net_builder.proofs.Common.{◌≡◌, ℕ, zero, suc, ◌+◌, ◌<◌, ◌≤◌, min, Bool, true, false, List, [], ◌∷◌, length, set, replicate, ◌⊎◌, inl, inr, sym, ◌∙◌, ap, subst, if◌then◌else◌, arith}
+use Rattle.net_builder.proofs.Common.{false≢true, eqb_tells, get_or-set_same, get_or-set_other, Step, Stays, On, Follows, IsOnLoop, next_in, seen_in, IsRound, IsClosed}
 use Rattle.net_builder.proofs.Following.{loop_goes, closed_follows, past_end}
 
 -- how many nets were not gone through

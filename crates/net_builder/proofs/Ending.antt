@@ -1,12 +1,6 @@
 -- Where all nets lead, once each is known.
-use Rattle.std.proofs.Common.{◌≡◌, ◌≢◌, ℕ, ◌≤◌, ◌↔◌, [], ◌⊎◌, inl, inr, refl, subst, arith}
-use Rattle.std.specs.List.{Contains}
-use Rattle.netlist_core.specs.Checked.{IsFirst}
-use Rattle.netlist_core.specs.declared.bit.Bit.{Bit}
-use Rattle.net_builder.specs.declared.tracing.Mark.{Mark}
-use Rattle.net_builder.specs.declared.tracing.Mark.TheVariants.{Unknown, Open, Ends, Loops}
-use Rattle.net_builder.specs.Finished.{LeadsTo, Follows, IsOnLoop}
-use Rattle.net_builder.specs.Tracing.{Known, next_of, mark_of, LeadsInto, IsDone, end_by, end_in}
+use Rattle.net_builder.proofs.Common.{◌≡◌, ◌≢◌, ℕ, ◌≤◌, ◌↔◌, [], ◌⊎◌, inl, inr, refl, subst, arith, Contains, IsFirst, Bit, Mark, Unknown, Open, Ends, Loops, LeadsTo, Follows, IsOnLoop, Known}
+use Rattle.net_builder.proofs.Common.{next_of, mark_of, LeadsInto, IsDone, end_by, end_in}
 use Rattle.net_builder.proofs.Marking.{none_there}
 use Rattle.net_builder.proofs.Following.{leads_once, leads_no_loop, loop_back}
 

@@ -1,11 +1,6 @@
 -- Where steps lead: to one bit at most, and those on a loop to none.
-use Rattle.std.proofs.Common.{◌≡◌, ℕ, zero, suc, Bool, ◌≤◌, List, [], ◌∷◌, length, ◌⊎◌, inl, inr, refl, sym, ◌∙◌, ap, subst, arith}
-use Rattle.netlist_core.specs.declared.bit.Bit.{Bit}
-use Rattle.netlist_core.specs.declared.bit.Bit.TheVariants.{Fixed}
-use Rattle.net_builder.specs.declared.steps.Step.{Step}
-use Rattle.net_builder.specs.declared.steps.Step.TheVariants.{Stays, Constant, On}
-use Rattle.net_builder.specs.Stepping.{next_in}
-use Rattle.net_builder.specs.Finished.{LeadsTo, stays, fixed, goes, Follows, direct, further, IsOnLoop}
+use Rattle.net_builder.proofs.Common.{◌≡◌, ℕ, zero, suc, Bool, ◌≤◌, List, [], ◌∷◌, length, ◌⊎◌, inl, inr, refl, sym, ◌∙◌, ap, subst, arith, Bit, Fixed, Step, Stays, Constant, On, next_in, LeadsTo}
+use Rattle.net_builder.proofs.Common.{stays, fixed, goes, Follows, direct, further, IsOnLoop}
 
 module _ (next : ℕ → Step) where
   on_same : (n m k : ℕ) → next n ≡ On m → next n ≡ On k → m ≡ k

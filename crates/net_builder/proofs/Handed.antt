@@ -1,5 +1,5 @@
 -- Errors that a call hands on.
-use Rattle.std.proofs.Common.{◌≡◌, subst, sym}
+use Rattle.net_builder.proofs.Common.{◌≡◌, subst, sym}
 use Rattle.std.specs.Prelude.{Result, Ok, Err, IfErr}
 use Rattle.std.specs.Result.{IsErrAnd}
 

@@ -1,20 +1,8 @@
 -- The table of steps is what the definition says.
-use Rattle.std.proofs.Common.{◌≡◌, ℕ, zero, suc, ◌/◌, ◌%◌, ◌<◌, Bool, true, false, ◌||◌, List, [], ◌∷◌, ◌++◌, length, nat_eq, set, Option, Some, None, inl, inr, refl, ◌∙◌, ap, if◌then◌else◌}
-use Rattle.std.proofs.lemmas.Bool.Decides.{eqb_tells}
-use Rattle.std.proofs.lemmas.List.{get_or-set_same, get_or-set_other}
-use Rattle.netlist_core.specs.declared.bit.Bit.{Bit}
-use Rattle.netlist_core.specs.declared.bit.Bit.TheVariants.{Fixed, Net}
-use Rattle.mcy_base.specs.declared.word.Word.{Word}
-use Rattle.netlist_core.specs.declared.port.Port.{Port}
-use Rattle.netlist_core.specs.declared.port.Register.{Register}
-use Rattle.netlist_core.specs.Runs.{bits_at, q_bits}
-use Rattle.net_builder.specs.declared.builder.Joint.{Joint}
-use Rattle.net_builder.specs.declared.steps.Step.{Step}
-use Rattle.net_builder.specs.declared.steps.Step.TheVariants.{Stays, Constant}
-use Rattle.net_builder.specs.Building.{Building, start_numbers}
-use Rattle.net_builder.specs.Written.{joint_of, has_net, is_stored}
-use Rattle.net_builder.specs.Finished.{some_has, later, start_among, start_of, stepped, step_of}
-use Rattle.net_builder.specs.Stepping.{no_steps, next_in, with_step, after_start, after_starts, after_kept, after_all_kept, joined_step, after_joints}
+use Rattle.net_builder.proofs.Common.{◌≡◌, ℕ, zero, suc, ◌/◌, ◌%◌, ◌<◌, Bool, true, false, ◌||◌, List, [], ◌∷◌, ◌++◌, length, nat_eq, set, Option, Some, None, inl, inr, refl, ◌∙◌, ap, if◌then◌else◌}
+use Rattle.net_builder.proofs.Common.{eqb_tells, get_or-set_same, get_or-set_other, Bit, Fixed, Net, Word, Port, Register, bits_at, q_bits, Joint, Step, Stays, Constant, Building, numbers_of}
+use Rattle.net_builder.proofs.Common.{joint_of, has_net, is_stored, some_has, later, start_among, start_of, stepped, step_of, no_steps, next_in, with_step, after_start, after_starts, after_kept}
+use Rattle.net_builder.proofs.Common.{after_all_kept, joined_step, after_joints}
 
 -- The table.
 
@@ -122,8 +110,8 @@ steps_are b inputs = λ i n. at n i
 
 -- the same where these are the builder's parts
 pub laid_are : (b : Building) (inputs ins : List Port) (table : List Step) (signals : List (List Bit)) (starts : List Word) (registers : List Register) (joints : List Joint)
-    → signals ≡ b.signals → start_numbers starts ≡ b.starts → ins ≡ inputs → registers ≡ b.registers → joints ≡ b.joints
-    → next_in table ≡ after_joints joints (after_all_kept (q_bits registers) (after_all_kept (bits_at ins) (after_starts signals (start_numbers starts) no_steps)))
+    → signals ≡ b.signals → numbers_of starts ≡ b.starts → ins ≡ inputs → registers ≡ b.registers → joints ≡ b.joints
+    → next_in table ≡ after_joints joints (after_all_kept (q_bits registers) (after_all_kept (bits_at ins) (after_starts signals (numbers_of starts) no_steps)))
     → next_in table ≡ step_of b (bits_at inputs)
 laid_are b inputs ins table signals starts registers joints s t i r j laid =
     laid

@@ -1,16 +1,8 @@
 -- What is known of the nets while they are followed.
-use Rattle.std.proofs.Common.{◌≡◌, ◌≢◌, ℕ, zero, suc, ◌+◌, ◌<◌, ◌≤◌, List, [], ◌∷◌, ◌++◌, length, get_or, set, replicate, ◌⊎◌, inl, inr, refl, sym, ◌∙◌, ap, subst, arith}
-use Rattle.std.specs.List.{Contains}
-use Rattle.std.proofs.lemmas.Bool.Decides.{eqb_tells}
-use Rattle.std.proofs.lemmas.List.{length-set, get_or-set_same, get_or-set_other, length-replicate}
-use Rattle.std.proofs.lemmas.List.Elements.{Contains-append_left, Contains-push, Contains-push_cases}
-use Rattle.netlist_core.specs.declared.bit.Bit.{Bit}
-use Rattle.netlist_core.specs.declared.bit.Bit.TheVariants.{Net}
+use Rattle.net_builder.proofs.Common.{◌≡◌, ◌≢◌, ℕ, zero, suc, ◌+◌, ◌<◌, ◌≤◌, List, [], ◌∷◌, ◌++◌, length, get_or, set, replicate, ◌⊎◌, inl, inr, refl, sym, ◌∙◌, ap, subst, arith, Contains, eqb_tells}
+use Rattle.net_builder.proofs.Common.{length-set, get_or-set_same, get_or-set_other, length-replicate, Contains-append_left, Contains-push, Contains-push_cases, Bit, Net, Mark, Unknown, Open, Ends}
+use Rattle.net_builder.proofs.Common.{Loops, LeadsTo, stays, Follows, direct, IsOnLoop, Known, next_of, mark_in, mark_of, one_unknown, unknowns, LeadsInto, Comes, Fits, IsTraced, IsDone, Keeps}
 use Rattle.net_builder.specs.declared.steps.Step.TheVariants as step
-use Rattle.net_builder.specs.declared.tracing.Mark.{Mark}
-use Rattle.net_builder.specs.declared.tracing.Mark.TheVariants.{Unknown, Open, Ends, Loops}
-use Rattle.net_builder.specs.Finished.{LeadsTo, stays, Follows, direct, IsOnLoop}
-use Rattle.net_builder.specs.Tracing.{Known, next_of, mark_in, mark_of, one_unknown, unknowns, LeadsInto, Comes, Fits, IsTraced, IsDone, Keeps}
 use Rattle.net_builder.proofs.Following.{trans, leads_from, past_end}
 
 -- a mark that was set

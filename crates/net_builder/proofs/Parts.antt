@@ -1,20 +1,14 @@
 -- The parts of a builder.
-use Rattle.std.proofs.Common.{◌≡◌, ℕ, zero, suc, ◌+◌, ◌≤◌, Bool, List, [], ◌∷◌, ◌++◌, length, slice_get, refl, sym, ◌∙◌, ap, subst, arith, append_assoc, add-zero}
+use Rattle.net_builder.proofs.Common.{◌≡◌, ℕ, zero, suc, ◌+◌, ◌≤◌, Bool, List, [], ◌∷◌, ◌++◌, length, slice_get, refl, sym, ◌∙◌, ap, subst, arith, append_assoc, add-zero, length-append, Bit, Fixed}
+use Rattle.net_builder.proofs.Common.{Net, Cell, Nets, values, plain, input_ports, output_port, ports_seen, Computes, AllWide, Joint, Building, RunsIn, Grows, AreAdded, AllBelow, PortsBelow}
+use Rattle.net_builder.proofs.Common.{fresh_bits, own_bits, with_cell, store}
 use Rattle.std.specs.Prelude.{Some}
-use Rattle.std.proofs.lemmas.List.{length-append}
 use Rattle.mcy_base.specs.declared.span.Span.{Span}
-use Rattle.netlist_core.specs.declared.bit.Bit.{Bit}
-use Rattle.netlist_core.specs.declared.bit.Bit.TheVariants.{Fixed, Net}
-use Rattle.netlist_core.specs.declared.cell.Cell.{Cell}
 use Rattle.netlist_core.specs.declared.cell.CellKind.{CellKind}
 use Rattle.netlist_core.specs.Numbers.{number}
 use Rattle.netlist_core.specs.Cells.{cell_value}
-use Rattle.netlist_core.specs.Runs.{Nets, values, plain, input_ports, output_port, ports_seen, Computes}
 use Rattle.netlist_core.specs.Shapes.{shape_of, widths, HasWidths}
-use Rattle.netlist_core.specs.Checked.{AllWide}
-use Rattle.net_builder.specs.declared.builder.Joint.{Joint}
 use Rattle.net_builder.specs.declared.builder.Signal.{Signal}
-use Rattle.net_builder.specs.Building.{Building, RunsIn, Grows, AreAdded, AllBelow, PortsBelow, fresh_bits, own_bits, with_cell, store}
 
 -- one net more
 pub fresh_step : (from k : ℕ) → fresh_bits from (suc k) ≡ fresh_bits from k ++ Net (from + k) ∷ []
@@ -39,18 +33,10 @@ below_later n m [] le h = tt
 below_later n m (Fixed b ∷ more) le h = below_later n m more le h
 below_later n m (Net k ∷ more) le h = (omega (arith, h.0), below_later n m more le h.1)
 
-pub ports_later : (n m : ℕ) (ports : List (List Bit)) → n ≤ m → PortsBelow n ports → PortsBelow m ports
-ports_later n m [] le h = tt
-ports_later n m (bits ∷ more) le h = (below_later n m bits le h.0, ports_later n m more le h.1)
-
 pub below_append : (n : ℕ) (xs ys : List Bit) → AllBelow n xs → AllBelow n ys → AllBelow n (xs ++ ys)
 below_append n [] ys h k = k
 below_append n (Fixed b ∷ xs) ys h k = below_append n xs ys h k
 below_append n (Net i ∷ xs) ys h k = (h.0, below_append n xs ys h.1 k)
-
-pub ports_append : (n : ℕ) (xs ys : List (List Bit)) → PortsBelow n xs → PortsBelow n ys → PortsBelow n (xs ++ ys)
-ports_append n [] ys h k = k
-ports_append n (x ∷ xs) ys h k = (h.0, ports_append n xs ys h.1 k)
 
 pub fresh_below : (from k : ℕ) → AllBelow (from + k) (fresh_bits from k)
 fresh_below from zero = tt
@@ -96,7 +82,7 @@ grows_again a b c g h = record {
 pub store_same : (a b : Building) (nets : Nets) → Grows a b → store b nets ≡ store a nets
 store_same a b nets g = ap (λ (x : Building). store x nets) g.is
 
-earlier_cell : (cells more : List Cell) (k : ℕ) (cell : Cell) → slice_get cells k ≡ Some cell → slice_get (cells ++ more) k ≡ Some cell
+pub earlier_cell : (cells more : List Cell) (k : ℕ) (cell : Cell) → slice_get cells k ≡ Some cell → slice_get (cells ++ more) k ≡ Some cell
 earlier_cell [] more k cell e = cc
 earlier_cell (x ∷ cells) more zero cell e = e
 earlier_cell (x ∷ cells) more (suc k) cell e = earlier_cell cells more k cell e

@@ -1,10 +1,6 @@
 -- Signals and their start values have the same widths.
-use Rattle.std.proofs.Common.{◌≡◌, ℕ, zero, suc, ◌<◌, List, [], ◌∷◌, ◌++◌, length, map, get_or, set, sym, ◌∙◌, ap, arith}
-use Rattle.std.proofs.lemmas.List.{length-map, map-append}
+use Rattle.net_builder.proofs.Common.{◌≡◌, ℕ, zero, suc, ◌<◌, List, [], ◌∷◌, ◌++◌, length, map, get_or, set, sym, ◌∙◌, ap, arith, length-map, map-append, Word, Bit, word_widths}
 use Rattle.std.proofs.Math.Seq.{map-set_same}
-use Rattle.mcy_base.specs.declared.word.Word.{Word}
-use Rattle.netlist_core.specs.declared.bit.Bit.{Bit}
-use Rattle.net_builder.specs.Building.{word_widths}
 
 -- as many
 pub starts_counted : (words : List Word) (signals : List (List Bit)) → word_widths words ≡ map length signals → length signals ≡ length words

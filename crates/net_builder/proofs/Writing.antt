@@ -1,17 +1,9 @@
 -- What nets are written by, as joints and registers are added.
-use Rattle.std.proofs.Common.{◌≡◌, ◌≢◌, ℕ, zero, suc, ◌<◌, ◌↔◌, Bool, true, false, ◌||◌, List, [], ◌∷◌, ◌++◌, length, nat_eq, get_or, set, drop, Option, Some, None, ◌⊎◌, inl, inr, refl, sym, ◌∙◌, ap, subst, if◌then◌else◌, arith}
-use Rattle.std.specs.List.{Contains}
-use Rattle.std.proofs.lemmas.Bool.{false≢true, or_cases, or_left, or_right}
-use Rattle.std.proofs.lemmas.Bool.Decides.{eqb_tells}
-use Rattle.std.proofs.lemmas.List.{get_or-set_same, get_or-set_other}
-use Rattle.netlist_core.specs.declared.bit.Bit.{Bit}
-use Rattle.netlist_core.specs.declared.bit.Bit.TheVariants.{Fixed, Net}
-use Rattle.netlist_core.specs.declared.port.Register.{Register}
-use Rattle.net_builder.specs.declared.builder.Joint.{Joint}
-use Rattle.net_builder.specs.declared.writers.Writer.{Writer}
+use Rattle.net_builder.proofs.Common.{◌≡◌, ◌≢◌, ℕ, zero, suc, ◌<◌, ◌↔◌, Bool, true, false, ◌||◌, List, [], ◌∷◌, ◌++◌, length, nat_eq, get_or, drop, Option, Some, None, ◌⊎◌, inl, inr, refl, sym, ◌∙◌}
+use Rattle.net_builder.proofs.Common.{ap, subst, if◌then◌else◌, arith, Contains, false≢true, or_cases, or_left, or_right, eqb_tells, Bit, Fixed, Net, Register, Joint, Writer, Building, AllBelow}
+use Rattle.net_builder.proofs.Common.{IsJoined, IsStored, joint_of, has_net, is_stored, writer, writer_of, writer_in, joined_by, stored_by, after_joint, after_stored, after_stores}
 use Rattle.net_builder.specs.declared.writers.Writer.TheVariants.{Nothing, Joined, Stored}
-use Rattle.net_builder.specs.Building.{Building, AllBelow}
-use Rattle.net_builder.specs.Written.{IsJoined, IsStored, joint_of, has_net, is_stored, writer, writer_of, writer_in, joined_by, stored_by, after_joint, after_stored, after_stores}
+use Rattle.std.proofs.lemmas.Map.Views.{exact_unsigned_eq}
 
 -- The table.
 
@@ -24,27 +16,6 @@ push_reads (w ∷ more) (suc m) = push_reads more m
 -- a default at the end is not seen
 pub push_is : (table : List Writer) → writer_in (table ++ Nothing ∷ []) ≡ writer_in table
 push_is table = λ i m. push_reads table m i
-
-abbrev changed : (Writer → Writer) → ℕ → (ℕ → Writer) → ℕ → Writer
-changed g net f n = if nat_eq n net then g (f n) else f n
-
-same_reads : (g : Writer → Writer) (table : List Writer) (n m : ℕ) → g (writer_in table n) ≡ writer_in table n → writer_in table m ≡ changed g n (writer_in table) m
-same_reads g table n m e = elim (eqb_tells m n) [ inl t ↦ rw (t.0, t.1) (sym e) | inr t ↦ rw t.0 refl ]
-
-set_reads : (g : Writer → Writer) (table : List Writer) (n m : ℕ) (w : Writer) → n < length table → w ≡ g (writer_in table n) → writer_in (set table n w) m ≡ changed g n (writer_in table) m
-set_reads g table n m w h e = elim (eqb_tells m n) [ inl t ↦ rw (t.0, t.1) (get_or-set_same table n w Nothing h ∙ e) | inr t ↦ rw t.0 (get_or-set_other table n m w Nothing t.1) ]
-
-pub same_joint : (table : List Writer) (n : ℕ) (bit b : Bit) → writer_in table n ≡ Joined b → writer_in table ≡ after_joint n bit (writer_in table)
-same_joint table n bit b e = λ i m. same_reads (joined_by bit) table n m (ap (joined_by bit) e ∙ sym e) i
-
-pub set_joint : (table : List Writer) (n : ℕ) (bit : Bit) (w : Writer) → n < length table → writer_in table n ≡ w → joined_by bit w ≡ Joined bit → writer_in (set table n (Joined bit)) ≡ after_joint n bit (writer_in table)
-set_joint table n bit w h e j = λ i m. set_reads (joined_by bit) table n m (Joined bit) h (sym (ap (joined_by bit) e ∙ j)) i
-
-pub same_store : (table : List Writer) (n : ℕ) (w : Writer) → writer_in table n ≡ w → stored_by w ≡ w → writer_in table ≡ after_stored n (writer_in table)
-same_store table n w e s = λ i m. same_reads stored_by table n m (ap stored_by e ∙ s ∙ sym e) i
-
-pub set_store : (table : List Writer) (n : ℕ) → n < length table → writer_in table n ≡ Nothing → writer_in (set table n Stored) ≡ after_stored n (writer_in table)
-set_store table n h e = λ i m. set_reads stored_by table n m Stored h (sym (ap stored_by e)) i
 
 -- Joints.
 
@@ -90,10 +61,6 @@ more_stored None true true = refl
 more_stored None true false = refl
 more_stored None false s = refl
 
-or_nothing : (a : Bool) → a || false ≡ a
-or_nothing true = refl
-or_nothing false = refl
-
 or_swapped : (a b c : Bool) → a || (b || c) ≡ b || (a || c)
 or_swapped true true c = refl
 or_swapped true false c = refl
@@ -109,16 +76,16 @@ register_added js rs r = λ i n. (ap (writer (joint_of js n)) (stored_more rs r 
 
 -- What the tests tell.
 
-has_first : {A : Type 0} → (xs : List A) (x : A) → Contains (x ∷ xs) x
+pub has_first : {A : Type 0} → (xs : List A) (x : A) → Contains (x ∷ xs) x
 has_first xs x = (zero, omega arith, refl)
 
-has_more : {A : Type 0} → (xs : List A) (y x : A) → Contains xs x → Contains (y ∷ xs) x
+pub has_more : {A : Type 0} → (xs : List A) (y x : A) → Contains xs x → Contains (y ∷ xs) x
 has_more xs y x h = (suc h.0, omega (arith, h.1), h.2)
 
-has_none : {A : Type 0} → (x : A) → Contains [] x → ⊥
+pub has_none : {A : Type 0} → (x : A) → Contains [] x → ⊥
 has_none x h = absurd (omega (arith, h.1))
 
-has_cases : {A : Type 0} → (xs : List A) (y x : A) → Contains (y ∷ xs) x → (y ≡ x) ⊎ Contains xs x
+pub has_cases : {A : Type 0} → (xs : List A) (y x : A) → Contains (y ∷ xs) x → (y ≡ x) ⊎ Contains xs x
 has_cases xs y x (zero, less, same) = inl same
 has_cases xs y x (suc k, less, same) = inr (k, omega (arith, less), same)
 
@@ -126,15 +93,12 @@ joint_here : (j : Joint) (js : List Joint) (n : ℕ) (bit : Bit) (o : Option Bit
 joint_here j js n bit o true at more e = let same : j.bit ≡ bit = cc in let net : j.net ≡ n = sym (at refl) in subst (λ (x : Joint). Contains (j ∷ js) x) (λ i. record { net = net i; bit = same i }) (has_first js j)
 joint_here j js n bit o false at more e = has_more js j (record { net = n; bit = bit }) (more e)
 
-nat_eq_is : (m n : ℕ) → nat_eq m n ≡ true → m ≡ n
-nat_eq_is m n e = elim (eqb_tells m n) [ inl t ↦ t.1 | inr t ↦ absurd (false≢true (sym t.0 ∙ e)) ]
-
-nat_eq_same : (n : ℕ) → nat_eq n n ≡ true
+pub nat_eq_same : (n : ℕ) → nat_eq n n ≡ true
 nat_eq_same n = elim (eqb_tells n n) [ inl t ↦ t.0 | inr t ↦ absurd (t.1 refl) ]
 
 pub joint_found : (js : List Joint) (n : ℕ) (bit : Bit) → joint_of js n ≡ Some bit → Contains js (record { net = n; bit = bit })
 joint_found [] n bit e = absurd cc
-joint_found (j ∷ more) n bit e = joint_here j more n bit (joint_of more n) (nat_eq n j.net) (nat_eq_is n j.net) (joint_found more n bit) e
+joint_found (j ∷ more) n bit e = joint_here j more n bit (joint_of more n) (nat_eq n j.net) (exact_unsigned_eq n j.net) (joint_found more n bit) e
 
 joint_not : (x : Bit) (o : Option Bit) (b : Bool) → (if b then Some x else o) ≡ None → (b ≡ false) × (o ≡ None)
 joint_not x o true e = absurd cc
@@ -153,7 +117,7 @@ pub has_net_there : (bits : List Bit) (n : ℕ) → has_net bits n ≡ true → 
 has_net_there [] n e = absurd (false≢true e)
 has_net_there (Fixed b ∷ more) n e = has_more more (Fixed b) (Net n) (has_net_there more n e)
 has_net_there (Net m ∷ more) n e = elim (or_cases (nat_eq n m) (has_net more n) e) [
-  | inl same ↦ subst (λ (x : ℕ). Contains (Net m ∷ more) (Net x)) (sym (nat_eq_is n m same)) (has_first more (Net m))
+  | inl same ↦ subst (λ (x : ℕ). Contains (Net m ∷ more) (Net x)) (sym (exact_unsigned_eq n m same)) (has_first more (Net m))
   | inr later ↦ has_more more (Net m) (Net n) (has_net_there more n later)
 ]
 

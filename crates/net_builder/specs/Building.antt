@@ -3,14 +3,16 @@ use Rattle.std.specs.Prelude.{◌≡◌, ℕ, zero, suc, ◌+◌, ◌<◌, Bool,
 use Rattle.mcy_base.specs.declared.span.Span.{Span}
 use Rattle.mcy_base.specs.declared.word.Word.{Word}
 use Rattle.netlist_core.specs.declared.bit.Bit.{Bit}
-use Rattle.netlist_core.specs.declared.bit.Bit.TheVariants.{Fixed, Net}
+use Rattle.netlist_core.specs.declared.bit.Bit.TheVariants.{Net}
 use Rattle.netlist_core.specs.declared.cell.Cell.{Cell}
 use Rattle.netlist_core.specs.declared.cell.CellKind.{CellKind}
 use Rattle.netlist_core.specs.declared.port.Register.{Register}
 use Rattle.netlist_core.specs.Numbers.{number}
+pub use Rattle.netlist_core.specs.Numbers.{numbers_of}
 use Rattle.netlist_core.specs.Runs.{Nets, bit_value, values, plain, input_ports, output_port, Computes}
 use Rattle.netlist_core.specs.Shapes.{HasShape}
 use Rattle.netlist_core.specs.Checked.{AllWide}
+pub use Rattle.netlist_core.specs.Below.{AllBelow, PortsBelow}
 use Rattle.net_builder.specs.declared.builder.Joint.{Joint}
 use Rattle.net_builder.specs.declared.builder.Signal.{Signal as Declared}
 use Rattle.vlog_meaning.specs.declared.scope.Decl.{Decl}
@@ -74,12 +76,6 @@ signal b k = slice_index_or b.signals k []
 abbrev pub start_bits : Building → ℕ → ℕ
 start_bits b k = slice_index_or b.starts k 0
 
-abbrev pub start_numbers : List Word → List ℕ
-start_numbers words = map (λ w. w.bits) words
-
-abbrev pub word_widths : List Word → List ℕ
-word_widths words = map (λ w. w.width) words
-
 -- a signal as it was declared
 abbrev pub declared_at : Building → ℕ → Declared
 declared_at b k = slice_index_or b.declared k (record { name = []; span = record { file = 0; line = 0; col = 0 }; first = 0; width = 0 })
@@ -88,16 +84,6 @@ declared_at b k = slice_index_or b.declared k (record { name = []; span = record
 pub record RunsIn (b : Building) (nets : Nets) : Type 0 where
   pub computed : (c : ℕ) (cell : Cell) → slice_get b.cells c ≡ Some cell → Computes (plain nets) nets c cell
   pub joined : (k : ℕ) (joint : Joint) → slice_get b.joints k ≡ Some joint → nets joint.net ≡ bit_value nets joint.bit
-
--- each bit is a constant, or a net below the number
-abbrev pub AllBelow : ℕ → List Bit → Type 0
-AllBelow n [] = Unit {0}
-AllBelow n (Fixed b ∷ more) = AllBelow n more
-AllBelow n (Net k ∷ more) = (k < n) × AllBelow n more
-
-abbrev pub PortsBelow : ℕ → List (List Bit) → Type 0
-PortsBelow n [] = Unit {0}
-PortsBelow n (bits ∷ more) = AllBelow n bits × PortsBelow n more
 
 -- Cells that are added one after the other: each has the ports of its kind, reads nets that stand there before, and
 -- drives the next nets. So every run of what was there before goes on to exactly one with them.
@@ -123,3 +109,8 @@ IsSignal b None = Unit {0}
 
 abbrev pub HasSignals : Names → Building → Type 0
 HasSignals names b = (name : List ℕ) → IsSignal b (names name)
+
+-- For proofs alone.
+
+abbrev pub word_widths : List Word → List ℕ
+word_widths words = map (λ w. w.width) words

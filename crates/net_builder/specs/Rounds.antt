@@ -4,6 +4,8 @@ use Rattle.net_builder.specs.declared.steps.Step.{Step}
 use Rattle.net_builder.specs.declared.steps.Step.TheVariants.{On}
 use Rattle.net_builder.specs.Finished.{IsOnLoop}
 
+-- For proofs alone.
+
 abbrev pub seen_in : List Bool → ℕ → Bool
 seen_in seen n = slice_index_or seen n true
 

@@ -6,6 +6,8 @@ use Rattle.net_builder.specs.declared.builder.Joint.{Joint}
 use Rattle.net_builder.specs.declared.steps.Step.{Step}
 use Rattle.net_builder.specs.declared.steps.Step.TheVariants.{Stays, Constant, On}
 
+-- For proofs alone.
+
 -- each net stays
 abbrev pub no_steps : ℕ → Step
 no_steps n = Stays

@@ -10,6 +10,8 @@ use Rattle.net_builder.specs.declared.tracing.Trace.{Trace}
 use Rattle.net_builder.specs.Finished.{LeadsTo, Follows, IsOnLoop}
 use Rattle.net_builder.specs.Stepping.{next_in}
 
+-- For proofs alone.
+
 -- The steps of the nets, what is known of each, the nets on the way, and one net of each loop that was found.
 pub record Known : Type 0 where
   pub steps : List Step

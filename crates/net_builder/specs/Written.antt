@@ -33,6 +33,8 @@ abbrev pub is_stored : List Register → ℕ → Bool
 is_stored [] n = false
 is_stored (r ∷ more) n = has_net r.q n || is_stored more n
 
+-- For proofs alone.
+
 abbrev pub writer : Option Bit → Bool → Writer
 writer (Some bit) stored = Joined bit
 writer None true = Stored

@@ -78,12 +78,12 @@ impl Drop for Builder {
 
 impl Model for Builder {
     ghost use Rattle.std.specs.Prelude.{◌≡◌, vec_len, ◌≤◌, ◌+◌, ◌*◌, length, map};
-    ghost use Rattle.net_builder.specs.Building.{Building, own_bits, start_numbers, word_widths};
+    ghost use Rattle.net_builder.specs.Building.{Building, own_bits, numbers_of, word_widths};
     ghost use Rattle.net_builder.specs.Written.{writers_of, writer_of};
 
     ghost Value = { Building };
 
-    ghost view = { λ b. record { cells = b.cells.items; joints = b.joints.items; registers = b.registers.items; declared = b.declared.items; signals = b.signals.items; starts = start_numbers b.starts.items; nets = b.nets } };
+    ghost view = { λ b. record { cells = b.cells.items; joints = b.joints.items; registers = b.registers.items; declared = b.declared.items; signals = b.signals.items; starts = numbers_of b.starts.items; nets = b.nets } };
 
     ghost invariant = { λ b. (length b.cells.items ≤ 65535) × (own_bits b.declared.items ≤ 4194304) × (b.nets ≤ own_bits b.declared.items + 128 * length b.cells.items) × (length b.declared.items ≡ length b.signals.items) × (length b.declared.items ≤ own_bits b.declared.items) × (word_widths b.starts.items ≡ map length b.signals.items) × (writers_of b.writers ≡ writer_of b.joints.items b.registers.items) × (b.signal_bits ≡ own_bits b.declared.items) };
 }

@@ -3,7 +3,7 @@ ghost use Rattle.std.specs.Prelude.{◌≡◌, ◌↔◌, ℕ, map, IfOk, IfErr,
 ghost use Rattle.netlist_core.specs.declared.bit.Bit.{Bit as NetBit};
 ghost use Rattle.netlist_core.specs.Runs.{bits_at, q_bits};
 ghost use Rattle.net_builder.specs.declared.finishing.FinishError.TheVariants.{Memory};
-ghost use Rattle.net_builder.specs.Building.{start_numbers};
+ghost use Rattle.net_builder.specs.Building.{numbers_of};
 ghost use Rattle.net_builder.specs.Finished.{LeadsTo, IsStuck, led, all_led, led_cell, led_register, led_port};
 ghost use Rattle.net_builder.specs.Stepping.{next_in, no_steps, after_starts, after_all_kept, after_joints};
 ghost use Rattle.net_builder.specs.Tracing.{known_of, end_in};
@@ -45,7 +45,7 @@ pub(crate) fn steps_of(
     joints: &[Joint],
 ) -> Result<Steps, AllocError>
     requires { length signals.now ≡ length starts.now }
-    ensures { IfOk result (λ s. next_in s ≡ after_joints joints.now (after_all_kept (q_bits registers.now) (after_all_kept (bits_at inputs.now) (after_starts signals.now (start_numbers starts.now) no_steps)))) }
+    ensures { IfOk result (λ s. next_in s ≡ after_joints joints.now (after_all_kept (q_bits registers.now) (after_all_kept (bits_at inputs.now) (after_starts signals.now (numbers_of starts.now) no_steps)))) }
 {
     let mut steps = Steps::new(alloc);
     steps.lay_starts(signals, starts)?;

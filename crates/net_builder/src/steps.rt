@@ -4,7 +4,7 @@
 //! table's end stays. Invariant: the table has no more entries than there are numbers of nets.
 ghost use Rattle.std.specs.Prelude.{◌≡◌, ◌≤◌, ◌^◌, OnOk, length};
 ghost use Rattle.netlist_core.specs.Runs.{bits_at, q_bits};
-ghost use Rattle.net_builder.specs.Building.{start_numbers};
+ghost use Rattle.net_builder.specs.Building.{numbers_of};
 ghost use Rattle.net_builder.specs.Stepping.{next_in, no_steps, with_step, after_start, after_starts, after_kept, after_all_kept, after_joints, joined_step};
 
 use crate::builder::Joint;
@@ -111,7 +111,7 @@ impl Steps {
         starts: &[Word],
     ) -> Result<(), AllocError>
         requires { length signals.now ≡ length starts.now }
-        ensures { OnOk result (next_in self.new ≡ after_starts signals.now (start_numbers starts.now) (next_in self.old)) }
+        ensures { OnOk result (next_in self.new ≡ after_starts signals.now (numbers_of starts.now) (next_in self.old)) }
     {
         for k in 0..signals.len() {
             self.lay_start(signals[k].as_slice(), starts[k].bits())?;

@@ -1,19 +1,11 @@
 -- Where no node is on a loop, all are listed.
-use Rattle.std.proofs.Common.{◌≡◌, ℕ, zero, suc, ◌<◌, ◌≤◌, false, eqb, List, [], ◌∷◌, ◌++◌, length, get_or, take, inl, inr, refl, sym, ◌∙◌, ap, subst, arith}
-use Rattle.std.specs.List.{Contains, AllByRecursion, IsDistinct}
-use Rattle.std.proofs.lemmas.Bool.Decides.{eqb_tells}
-use Rattle.std.proofs.lemmas.List.{get_or-take, length-take-le, get_or_default}
+use Rattle.net_order.proofs.Common.{◌≡◌, ℕ, zero, suc, ◌<◌, ◌≤◌, false, eqb, List, [], ◌∷◌, ◌++◌, length, get_or, take, inl, inr, refl, sym, ◌∙◌, ap, subst, arith, Contains, AllByRecursion}
+use Rattle.net_order.proofs.Common.{IsDistinct, eqb_tells, get_or-take, length-take-le, get_or_default, AreInside, Reads, ReadsThrough, IsOnLoop, IsLeastReady, IsInOrder, Never, is_listed, Stage}
+use Rattle.net_order.proofs.Common.{IsStage, none_left, Reaches, cases_Bool}
 use Rattle.std.proofs.lemmas.Map.Views.{Contains-from_any, exact_unsigned_eq}
 use Rattle.std.proofs.lemmas.Map.Steps.{length-le_from_distinct_below}
-use Rattle.net_order.specs.Orders.{AreInside, Reads, ReadsThrough, IsOnLoop, IsLeastReady, IsInOrder}
-use Rattle.net_order.specs.Listing.{is_listed, Stage, IsStage, none_left}
-use Rattle.net_order.specs.Reaching.{Reaches}
-use Rattle.net_order.proofs.Reading.{tells, reader-inside, Contains-head, Contains-tail, Contains-cases, Contains-empty}
-use Rattle.net_order.proofs.Trails.{through-more}
-
--- no number has the property
-abbrev pub Never : (ℕ → Type 0) → Type 0
-Never P = (n : ℕ) → ¬ P n
+use Rattle.net_order.proofs.Reading.{reader-inside, Contains-head, Contains-tail, Contains-cases, Contains-empty}
+use Rattle.net_order.proofs.Along.{through_more}
 
 -- A listed node is on no loop.
 
@@ -81,7 +73,7 @@ chain-longer graph s h empty never first more chain =
             let r : Reads graph first e = h.waits first e w.1 w.2 in
             let reach : (x : ℕ) → Contains (first ∷ more) x → Reaches graph x e = λ x there. elim (Contains-cases first x more there) [
               | inl same ↦ ([], subst (λ (k : ℕ). Reads graph k e) same r)
-              | inr later ↦ (let old : Reaches graph x first = chain.reach x later in (old.0 ++ first ∷ [], through-more graph x old.0 first e old.1 r))
+              | inr later ↦ (let old : Reaches graph x first = chain.reach x later in (old.0 ++ first ∷ [], through_more (Reads graph) x old.0 first e old.1 r))
             ] in (
               e,
               record {
@@ -118,7 +110,7 @@ chain-of graph s h empty never c inside free (suc k) =
 
 -- where nothing is ready and no node is on a loop, each node is listed
 pub all-listed : (graph : List (List ℕ)) (s : Stage) → IsStage graph s none_left → s.ready ≡ [] → Never (IsOnLoop (Reads graph)) → (c : ℕ) → c < length graph → Contains s.order c
-all-listed graph s h empty never c inside = elim (tells (is_listed s.listed c)) [
+all-listed graph s h empty never c inside = elim (cases_Bool (is_listed s.listed c)) [
   | inl t ↦ h.told c t
   | inr free ↦
       let chain = chain-of graph s h empty never c inside free (length graph) in

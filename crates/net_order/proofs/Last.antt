@@ -1,8 +1,5 @@
 -- Dropping nodes from the end of a list.
-use Rattle.std.proofs.Common.{◌≡◌, ℕ, Bool, true, List, [], ◌∷◌, ◌++◌, ◌⊎◌, inl, inr, sym, ◌∙◌, ap}
-use Rattle.std.specs.List.{Contains}
-use Rattle.std.proofs.lemmas.List.Elements.{Contains-push_cases}
-use Rattle.net_order.specs.Listing.{is_listed}
+use Rattle.net_order.proofs.Common.{◌≡◌, ℕ, Bool, true, List, [], ◌∷◌, ◌++◌, ◌⊎◌, inl, inr, sym, ◌∙◌, ap, Contains, Contains-push_cases, is_listed}
 
 -- a listed node at the end may be dropped
 pub drop-last : (listed : List Bool) (xs : List ℕ) (x d : ℕ) → is_listed listed x ≡ true → Contains (xs ++ x ∷ []) d → (is_listed listed d ≡ true) ⊎ Contains xs d

@@ -1,6 +1,11 @@
+mod Common
 mod Last
 mod Stages
-mod Reading
+pub mod Reading
 mod Staged
 mod Trails
 mod Chains
+pub mod Along
+pub mod Unique
+pub mod Totals
+mod Left

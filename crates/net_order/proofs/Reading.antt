@@ -1,23 +1,14 @@
 -- Nodes that read and are read, and lists of nodes.
-use Rattle.std.proofs.Common.{◌≡◌, ℕ, zero, suc, ◌<◌, ◌≤◌, Bool, true, false, List, [], ◌∷◌, length, get_or, take, ◌⊎◌, inl, inr, refl, sym, ◌∙◌, subst, arith}
-use Rattle.std.specs.List.{Contains}
-use Rattle.std.specs.BTreeSet.{insert_key}
-use Rattle.std.specs.Ordering.{nat_cmp, match_ordering}
+use Rattle.net_order.proofs.Common.{◌≡◌, ℕ, zero, suc, ◌<◌, ◌≤◌, List, [], ◌∷◌, length, get_or, take, ◌⊎◌, inl, inr, refl, sym, ◌∙◌, subst, arith, Contains, insert_key, nat_cmp, match_ordering, Less}
+use Rattle.net_order.proofs.Common.{Equal, Greater, get_or-take, length-take-le, get_or_default, Reads, IsLeastReady, IsInOrder}
 use Rattle.std.specs.declared.cmp.Ordering.{Ordering}
-use Rattle.std.specs.declared.cmp.Ordering.TheVariants.{Less, Equal, Greater}
-use Rattle.std.proofs.lemmas.List.{get_or-take, length-take-le, get_or_default}
 use Rattle.std.proofs.lemmas.Map.Lookups.{exact_unsigned}
-use Rattle.net_order.specs.Orders.{Reads, IsLeastReady, IsInOrder}
 
 -- a node that reads is one of the nodes
 pub reader-inside : (rows : List (List ℕ)) (c d : ℕ) → Reads rows c d → c < length rows
 reader-inside [] c d h = absurd (omega (arith, h.1))
 reader-inside (row ∷ more) zero d h = omega arith
 reader-inside (row ∷ more) (suc c) d h = let rest = reader-inside more c d h in omega (arith, rest)
-
-pub tells : (b : Bool) → (b ≡ true) ⊎ (b ≡ false)
-tells true = inl refl
-tells false = inr refl
 
 -- What a list has.
 

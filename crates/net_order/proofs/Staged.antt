@@ -1,19 +1,12 @@
 -- Each step of the listing leads from a stage to a stage.
-use Rattle.std.proofs.Common.{◌≡◌, ◌≢◌, ℕ, zero, suc, ◌+◌, ◌<◌, ◌≤◌, Bool, true, false, List, [], ◌∷◌, ◌++◌, length, get_or, set, take, drop, replicate, Option, Some, None, ◌⊎◌, inl, inr, refl, sym, ◌∙◌, ap, subst, arith}
-use Rattle.std.specs.List.{Contains, All}
-use Rattle.std.specs.BTreeSet.{insert_key}
+use Rattle.net_order.proofs.Common.{◌≡◌, ◌≢◌, ℕ, zero, suc, ◌+◌, ◌<◌, ◌≤◌, Bool, true, false, List, [], ◌∷◌, ◌++◌, length, get_or, set, take, drop, replicate, Option, Some, None, ◌⊎◌, inl, inr, refl}
+use Rattle.net_order.proofs.Common.{sym, ◌∙◌, ap, subst, arith, Contains, All, insert_key, nat_cmp, Less, Equal, Greater, false≢true, cases_lt, cases_order, cases_Bool, eqb_tells, length-set}
+use Rattle.net_order.proofs.Common.{length_push, get_or-set_same, get_or-set_other, get_or_append_left, get_or_push, take-append-le, take_at, length-replicate, length-drop, drop_more, Contains-get_or}
+use Rattle.net_order.proofs.Common.{Contains-append_left, Contains-push, Contains-push_cases, row_of, AreInside, Reads, IsReady, IsLeastReady, IsInOrder, is_listed, Stage, IsNext, with_row, placed}
+use Rattle.net_order.proofs.Common.{IsPlaced, marked, IsSized, CanBePlaced, IsStage, none_left, unfound}
 use Rattle.std.specs.BTreeMap.Range.{IsLtBy}
-use Rattle.std.specs.Ordering.{nat_cmp}
 use Rattle.std.specs.Cmp.{nat_cmp_is}
-use Rattle.std.specs.declared.cmp.Ordering.TheVariants.{Less, Equal, Greater}
-use Rattle.std.proofs.lemmas.Bool.{false≢true, cases_lt, cases_order}
-use Rattle.std.proofs.lemmas.Bool.Decides.{eqb_tells}
-use Rattle.std.proofs.lemmas.List.{length-set, length_push, get_or-set_same, get_or-set_other, get_or_append_left, get_or_push, take-append-le, take_at, length-replicate, length-drop, drop_more}
-use Rattle.std.proofs.lemmas.List.Elements.{Contains-get_or, Contains-append_left, Contains-push, Contains-push_cases}
-use Rattle.net_order.specs.Orders.{row_of, AreInside, Reads, IsReady, IsLeastReady, IsInOrder}
-use Rattle.net_order.specs.Listing.{is_listed, Stage, IsNext, with_row, placed, IsPlaced, marked, IsSized, CanBePlaced, IsStage, none_left}
-use Rattle.net_order.specs.Reaching.{unfound}
-use Rattle.net_order.proofs.Reading.{tells, reader-inside, Contains-head, Contains-tail, Contains-cases, Contains-empty, insert-has, insert-keeps, insert-only, listed-reads}
+use Rattle.net_order.proofs.Reading.{reader-inside, Contains-head, Contains-tail, Contains-cases, Contains-empty, insert-has, insert-keeps, insert-only, listed-reads}
 
 -- fewer are left
 pub stage-fewer : (graph : List (List ℕ)) (s : Stage) (P Q : ℕ → Type 0) → ((x : ℕ) → P x → Q x) → IsStage graph s P → IsStage graph s Q
@@ -263,7 +256,7 @@ module _ (graph : List (List ℕ)) (s : Stage) (h : IsStage graph s none_left) (
   is_ready = h.ready c (subst (λ (l : List ℕ). Contains l c) (sym first) (Contains-head c rest))
 
   free : is_listed s.listed c ≡ false
-  free = elim (tells (is_listed s.listed c)) [ inl t ↦ absurd (is_ready.unlisted (h.told c t)) | inr f ↦ f ]
+  free = elim (cases_Bool (is_listed s.listed c)) [ inl t ↦ absurd (is_ready.unlisted (h.told c t)) | inr f ↦ f ]
 
   pub inside : c < length s.listed
   inside = omega (arith, is_ready.node, h.room)
@@ -271,7 +264,7 @@ module _ (graph : List (List ℕ)) (s : Stage) (h : IsStage graph s none_left) (
   pub least_ready : IsLeastReady (length graph) (Reads graph) s.order c
   least_ready = record {
     ready = is_ready;
-    least = λ d r. elim (tells (is_listed s.listed d)) [
+    least = λ d r. elim (cases_Bool (is_listed s.listed d)) [
       | inl t ↦ absurd (r.unlisted (h.told d t))
       | inr f ↦ elim (h.each d r.node f) [
         | inl there ↦ elim (Contains-cases c d rest (subst (λ (l : List ℕ). Contains l d) first there)) [
@@ -368,7 +361,7 @@ module _ (graph : List (List ℕ)) (s : Stage) (h : IsStage graph s none_left) (
   woken x has =
       let r : Reads graph x c = h.waits x c free has in
       let other : x ≢ c = λ same. is_ready.unlisted (is_ready.reads c (subst (λ (k : ℕ). Reads graph k c) same r)) in
-      let not_before : is_listed s.listed x ≡ false = elim (tells (is_listed s.listed x)) [ inl t ↦ absurd (is_ready.unlisted (listed-reads graph s.order h.order x c (h.told x t) r)) | inr f ↦ f ] in
+      let not_before : is_listed s.listed x ≡ false = elim (cases_Bool (is_listed s.listed x)) [ inl t ↦ absurd (is_ready.unlisted (listed-reads graph s.order h.order x c (h.told x t) r)) | inr f ↦ f ] in
       (reader-inside graph x c r, get_or-set_other s.listed c x true false other ∙ not_before)
 
   pub woken-inside : All (λ d. d < length s.listed) (row_of s.waiting c)
@@ -385,7 +378,7 @@ row_of-none zero d = refl
 row_of-none (suc n) zero = refl
 row_of-none (suc n) (suc d) = row_of-none n d
 
-is_listed-none : (n c : ℕ) → is_listed (replicate n false) c ≡ false
+pub is_listed-none : (n c : ℕ) → is_listed (replicate n false) c ≡ false
 is_listed-none zero c = refl
 is_listed-none (suc n) zero = refl
 is_listed-none (suc n) (suc c) = is_listed-none n c
@@ -414,7 +407,7 @@ stage-start graph s within listed reads ready waiting order =
 -- the nodes from c on are left, and c is placed
 pub stage-from : (graph : List (List ℕ)) (s t : Stage) (c : ℕ) → c < length graph → s.order ≡ [] → IsPlaced c s t → IsStage graph s (λ x. c ≤ x) → IsStage graph t (λ x. c + 1 ≤ x)
 stage-from graph s t c inside none by h =
-    let free : is_listed s.listed c ≡ false = elim (tells (is_listed s.listed c)) [ inl t ↦ absurd (Contains-empty c (subst (λ (l : List ℕ). Contains l c) none (h.told c t))) | inr f ↦ f ] in
+    let free : is_listed s.listed c ≡ false = elim (cases_Bool (is_listed s.listed c)) [ inl t ↦ absurd (Contains-empty c (subst (λ (l : List ℕ). Contains l c) none (h.told c t))) | inr f ↦ f ] in
     stage-placed graph s t (λ x. c + 1 ≤ x) c inside free by (stage-fewer graph s (λ x. c ≤ x) (λ x. (c ≡ x) ⊎ (c + 1 ≤ x)) (λ x p. from c x p) h)
   where
     from : (a b : ℕ) → a ≤ b → (a ≡ b) ⊎ (a + 1 ≤ b)

@@ -1,10 +1,6 @@
 -- The stages of listing, as the code keeps them.
-use Rattle.std.proofs.Common.{◌≡◌, ℕ, ◌<◌, Bool, true, List, [], ◌∷◌, ◌++◌, map, length, get_or, set, Option, Some, None, refl, sym, ◌∙◌, ap}
-use Rattle.std.specs.BTreeSet.{insert_key}
-use Rattle.std.specs.Ordering.{nat_cmp}
-use Rattle.std.proofs.lemmas.List.{map-set, get_or-map}
-use Rattle.net_order.specs.Orders.{row_of}
-use Rattle.net_order.specs.Listing.{IsNext, IsPlaced, marked}
+use Rattle.net_order.proofs.Common.{◌≡◌, ℕ, ◌<◌, Bool, true, List, [], ◌∷◌, ◌++◌, map, length, get_or, set, Option, Some, None, refl, sym, ◌∙◌, ap, insert_key, nat_cmp, map-set, get_or-map, row_of}
+use Rattle.net_order.proofs.Common.{IsNext, IsPlaced, marked}
 
 module _ {V : Type 0} (items : V → List ℕ) where
   -- the list at a place

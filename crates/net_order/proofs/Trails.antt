@@ -1,16 +1,12 @@
 -- Looking for the nodes that a node reads, directly or through others.
-use Rattle.std.proofs.Common.{◌≡◌, ℕ, zero, suc, ◌+◌, ◌<◌, ◌↔◌, Bool, true, false, List, [], ◌∷◌, ◌++◌, length, get_or, set, replicate, Option, Some, None, ◌⊎◌, inl, inr, refl, sym, ◌∙◌, ap, subst, arith}
-use Rattle.std.specs.List.{All, Contains}
+use Rattle.net_order.proofs.Common.{◌≡◌, ℕ, ◌+◌, ◌<◌, ◌↔◌, Bool, true, false, List, [], ◌∷◌, ◌++◌, length, get_or, set, replicate, Option, Some, None, ◌⊎◌, inl, inr, refl, sym, ◌∙◌, ap, subst, arith}
+use Rattle.net_order.proofs.Common.{All, Contains, false≢true, cases_Bool, eqb_tells, length-set, length_push, get_or-set_same, get_or-set_other, length-replicate, Contains-get_or}
+use Rattle.net_order.proofs.Common.{Contains-append_left, Contains-push, Contains-push_cases, row_of, AreInside, Reads, ReadsThrough, IsOnLoop, is_listed, none_left, Trail, after_node, after_nodes}
+use Rattle.net_order.proofs.Common.{unfound, Reaches, IsFound, IsTrail}
 use Rattle.std.specs.Option.{MatchOption}
-use Rattle.std.proofs.lemmas.Bool.{false≢true}
-use Rattle.std.proofs.lemmas.Bool.Decides.{eqb_tells}
-use Rattle.std.proofs.lemmas.List.{length-set, length_push, get_or-set_same, get_or-set_other, length-replicate}
-use Rattle.std.proofs.lemmas.List.Elements.{Contains-get_or, Contains-append_left, Contains-push, Contains-push_cases}
-use Rattle.net_order.specs.Orders.{row_of, AreInside, Reads, ReadsThrough, IsOnLoop}
-use Rattle.net_order.specs.Listing.{is_listed, none_left}
-use Rattle.net_order.specs.Reaching.{Trail, after_node, after_nodes, unfound, Reaches, IsFound, IsTrail}
-use Rattle.net_order.proofs.Reading.{tells, Contains-empty, Contains-head, Contains-tail, Contains-cases}
-use Rattle.net_order.proofs.Staged.{unfound-set}
+use Rattle.net_order.proofs.Reading.{Contains-empty, Contains-head, Contains-tail, Contains-cases}
+use Rattle.net_order.proofs.Along.{through_more}
+use Rattle.net_order.proofs.Staged.{unfound-set, is_listed-none}
 
 -- From s to t the nodes of a list were found.
 pub record IsStep (row : List ℕ) (s t : Trail) : Type 0 where
@@ -27,7 +23,7 @@ only c e has = elim (Contains-cases c e [] has) [ inl same ↦ same | inr none �
 
 -- one node
 step-node : (c : ℕ) (s : Trail) → c < length s.found → IsStep (c ∷ []) s (after_node c s)
-step-node c s inside = elim (tells (is_listed s.found c)) [
+step-node c s inside = elim (cases_Bool (is_listed s.found c)) [
   | inl found ↦ rw found (record {
     room = refl;
     grows = λ e h. h;
@@ -89,13 +85,9 @@ step-nodes (c ∷ more) s inside =
 
 -- What a node reaches.
 
-pub through-more : (graph : List (List ℕ)) (c : ℕ) (between : List ℕ) (d e : ℕ) → ReadsThrough (Reads graph) c between d → Reads graph d e → ReadsThrough (Reads graph) c (between ++ d ∷ []) e
-through-more graph c [] d e h r = (h, r)
-through-more graph c (b ∷ more) d e h r = (h.0, through-more graph b more d e h.1 r)
-
 reaches-next : (graph : List (List ℕ)) (c d e : ℕ) → (c ≡ d) ⊎ Reaches graph c d → Reads graph d e → Reaches graph c e
 reaches-next graph c d e (inl same) r = ([], subst (λ (k : ℕ). Reads graph k e) (sym same) r)
-reaches-next graph c d e (inr h) r = (h.0 ++ d ∷ [], through-more graph c h.0 d e h.1 r)
+reaches-next graph c d e (inr h) r = (h.0 ++ d ∷ [], through_more (Reads graph) c h.0 d e h.1 r)
 
 from-found : (graph : List (List ℕ)) (c d : ℕ) (s : Trail) (P : ℕ → Type 0) → IsTrail graph c s P → (c ≡ d) ⊎ IsFound s d → (c ≡ d) ⊎ Reaches graph c d
 from-found graph c d s P h (inl same) = inl same
@@ -155,15 +147,10 @@ trail-pop graph c d s rest is h = record {
 pub popped-found : (graph : List (List ℕ)) (c d : ℕ) (s : Trail) (rest : List ℕ) → s.open_nodes ≡ rest ++ d ∷ [] → IsTrail graph c s none_left → IsFound s d
 popped-found graph c d s rest is h = h.opened d (subst (λ (l : List ℕ). Contains l d) (sym is) (Contains-push rest d))
 
-found-none : (n c : ℕ) → is_listed (replicate n false) c ≡ false
-found-none zero c = refl
-found-none (suc n) zero = refl
-found-none (suc n) (suc c) = found-none n c
-
 -- nothing is found yet
 pub trail-start : (graph : List (List ℕ)) (c : ℕ) (s : Trail) → AreInside graph → s.found ≡ replicate (length graph) false → s.open_nodes ≡ [] → IsTrail graph c s (λ x. c ≡ x)
 trail-start graph c s within none empty =
-    let nothing : (e : ℕ) → IsFound s e → ⊥ = λ e is. false≢true (sym (found-none (length graph) e) ∙ sym (ap (λ (l : List Bool). is_listed l e) none) ∙ is) in
+    let nothing : (e : ℕ) → IsFound s e → ⊥ = λ e is. false≢true (sym (is_listed-none (length graph) e) ∙ sym (ap (λ (l : List Bool). is_listed l e) none) ∙ is) in
     record {
       inside = within;
       room = ap length none ∙ length-replicate (length graph) false;

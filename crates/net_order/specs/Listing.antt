@@ -6,6 +6,8 @@ use Rattle.std.specs.Ordering.{nat_cmp}
 use Rattle.net_order.specs.declared.listing.Listing.{Listing}
 use Rattle.net_order.specs.Orders.{row_of, Reads, AreInside, IsReady, IsInOrder}
 
+-- For proofs alone.
+
 abbrev pub is_listed : List Bool → ℕ → Bool
 is_listed listed c = slice_index_or listed c false
 

@@ -33,14 +33,14 @@ pub record IsOrder (count : ℕ) (R : ℕ → ℕ → Type 0) (order : List ℕ)
   pub places : IsInOrder count R order
   pub each : (c : ℕ) → c < count → Contains order c
 
--- the first number with a property, or that none has it
-pub record IsFirst (P : ℕ → Type 0) (m : ℕ) : Type 0 where
-  pub here : P m
-  pub before : (k : ℕ) → k < m → ¬ P k
+-- no number has the property
+abbrev pub Never : (ℕ → Type 0) → Type 0
+Never P = (n : ℕ) → ¬ P n
 
-abbrev pub IsLeast : (ℕ → Type 0) → Option ℕ → Type 0
-IsLeast P None = (n : ℕ) → ¬ P n
-IsLeast P (Some m) = IsFirst P m
+-- the number has the property, and no lesser one has it
+pub record IsFirst (P : ℕ → Type 0) (n : ℕ) : Type 0 where
+  pub here : P n
+  pub before : (m : ℕ) → m < n → ¬ P m
 
 -- Nodes by a list for each: those that it reads.
 
@@ -54,3 +54,10 @@ Reads rows c d = Contains (row_of rows c) d
 -- each node that is read is one of the nodes
 abbrev pub AreInside : List (List ℕ) → Type 0
 AreInside rows = (c d : ℕ) → Reads rows c d → d < length rows
+
+-- For proofs alone.
+
+-- the option is the least number with the property
+abbrev pub IsLeast : (ℕ → Type 0) → Option ℕ → Type 0
+IsLeast P None = Never P
+IsLeast P (Some n) = IsFirst P n

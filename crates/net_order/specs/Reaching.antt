@@ -5,6 +5,8 @@ use Rattle.net_order.specs.declared.loops.Search.{Search}
 use Rattle.net_order.specs.Orders.{AreInside, Reads, ReadsThrough}
 use Rattle.net_order.specs.Listing.{is_listed}
 
+-- For proofs alone.
+
 -- Which nodes were found, and which of them are still to be looked at.
 pub record Trail : Type 0 where
   pub found : List Bool

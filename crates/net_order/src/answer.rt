@@ -16,12 +16,12 @@ pub enum Ordered {
 
 /// The order of nodes, by the nodes that each reads: at each place the least numbered one that is not listed yet and whose
 /// read nodes are all listed. Takes time linear in what is read, and as many logarithms as nodes, where there is no loop.
-pub fn order(alloc: Global, reads: &[Vec<usize>]) -> Result<Ordered, AllocError>
-    requires { AreInside (map (λ v. v.items) reads.now) }
-    ensures { IfOk result (IsAnswer (map (λ v. v.items) reads.now)) }
+pub fn order(alloc: Global, reads: Vec<Vec<usize>>) -> Result<Ordered, AllocError>
+    requires { AreInside (map (λ v. v.items) reads.items) }
+    ensures { IfOk result (IsAnswer (map (λ v. v.items) reads.items)) }
 {
     let listing = Listing::of(alloc, reads)?;
-    match least_on_loop(alloc, reads, listing.listed())? {
+    match least_on_loop(alloc, listing.left(), listing.listed())? {
         Some(node) => Ok(Ordered::Loop(node)),
         None => Ok(Ordered::Order(listing.into_order())),
     }

@@ -47,26 +47,6 @@ fn empty_lists(alloc: Global, count: usize) -> Result<Vec<Vec<usize>>, AllocErro
     Ok(lists)
 }
 
-/// A copy of a list.
-fn copy(alloc: Global, list: &[usize]) -> Result<Vec<usize>, AllocError>
-    ensures { IfOk result (λ v. v.items ≡ list.now) }
-{
-    let mut copied = Vec::new(alloc);
-    copied.extend_from_slice(list)?;
-    Ok(copied)
-}
-
-/// Copies of lists.
-fn copies(alloc: Global, lists: &[Vec<usize>]) -> Result<Vec<Vec<usize>>, AllocError>
-    ensures { IfOk result (λ v. map (λ w. w.items) v.items ≡ map (λ w. w.items) lists.now) }
-{
-    let mut copied = Vec::new(alloc);
-    for list in lists {
-        copied.push(copy(alloc, list)?)?;
-    }
-    Ok(copied)
-}
-
 impl Listing {
     /// Puts a node where it belongs.
     fn place(&mut self, c: usize) -> Result<(), AllocError>
@@ -114,27 +94,28 @@ impl Listing {
     }
 
     /// Nothing is listed yet, and each node is ready or waits.
-    fn start(alloc: Global, reads: &[Vec<usize>]) -> Result<Listing, AllocError>
-        requires inside { AreInside (map (λ v. v.items) reads.now) }
-        ensures { IfOk result (λ l. IsStage (map (λ v. v.items) reads.now) (stage_of l) none_left) }
+    fn start(alloc: Global, reads: Vec<Vec<usize>>) -> Result<Listing, AllocError>
+        requires inside { AreInside (map (λ v. v.items) reads.items) }
+        ensures { IfOk result (λ l. IsStage (map (λ v. v.items) reads.items) (stage_of l) none_left) }
     {
+        let count = reads.len();
         let mut listing = Listing {
-            listed: vec![in alloc; false; reads.len()]?,
-            reads: copies(alloc, reads)?,
+            listed: vec![in alloc; false; count]?,
+            reads,
             ready: BTreeSet::new(alloc),
-            waiting: empty_lists(alloc, reads.len())?,
+            waiting: empty_lists(alloc, count)?,
             order: Vec::new(alloc),
         };
-        for c in 0..reads.len() {
+        for c in 0..count {
             listing.place(c)?;
         }
         Ok(listing)
     }
 
     /// Lists the least node that is ready, again and again, until none is.
-    pub(crate) fn of(alloc: Global, reads: &[Vec<usize>]) -> Result<Listing, AllocError>
-        requires inside { AreInside (map (λ v. v.items) reads.now) }
-        ensures { IfOk result (λ l. IsStage (map (λ v. v.items) reads.now) (stage_of l) none_left × ((stage_of l).ready ≡ [])) }
+    pub(crate) fn of(alloc: Global, reads: Vec<Vec<usize>>) -> Result<Listing, AllocError>
+        requires inside { AreInside (map (λ v. v.items) reads.items) }
+        ensures { IfOk result (λ l. IsStage (map (λ v. v.items) reads.items) (stage_of l) none_left × ((stage_of l).ready ≡ [])) }
     {
         let mut listing = Listing::start(alloc, reads)?;
         while let Some(c) = listing.ready.pop_first() {
@@ -148,6 +129,13 @@ impl Listing {
         ensures { result.now ≡ (stage_of self.now).listed }
     {
         self.listed.as_slice()
+    }
+
+    /// The nodes that each node reads but some that are listed.
+    pub(crate) fn left(&self) -> &[Vec<usize>]
+        ensures { map (λ v. v.items) result.now ≡ (stage_of self.now).reads }
+    {
+        self.reads.as_slice()
     }
 
     /// The order of those that are listed.

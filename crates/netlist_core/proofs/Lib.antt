@@ -1,14 +1,10 @@
+mod Common
 mod Tables
 mod Counting
 pub mod Owners
-mod Sources
-mod Last
-mod Stages
-mod Reading
-mod Staged
-mod Trails
-mod Chains
+pub mod Sources
+pub mod CellPorts
+pub mod Reading
 mod Checks
 pub mod Settles
 mod Solved
-mod Unique

@@ -1,17 +1,10 @@
 -- Computing the cells in their order solves the equations of a cycle, and nothing else does.
-use Rattle.std.proofs.Common.{◌≡◌, ◌≢◌, ℕ, zero, suc, ◌+◌, ◌*◌, ◌/◌, ◌%◌, ◌^◌, ◌<◌, ◌≤◌, Bool, true, false, List, [], ◌∷◌, length, nat_eq, refl, sym, ◌∙◌, ap, subst, inl, inr, arith}
-use Rattle.std.proofs.lemmas.Bool.Decides.{eqb_tells}
-use Rattle.std.proofs.lemmas.Bool.{cases_lt}
+use Rattle.netlist_core.proofs.Common.{◌≡◌, ◌≢◌, ℕ, zero, suc, ◌+◌, ◌*◌, ◌/◌, ◌%◌, ◌^◌, ◌<◌, ◌≤◌, Bool, true, false, List, [], ◌∷◌, length, nat_eq, refl, sym, ◌∙◌, ap, subst, inl, inr, arith}
+use Rattle.netlist_core.proofs.Common.{eqb_tells, cases_lt, Bit, Fixed, Net, RawNetlist, digit, number, Nets, values, Sight, plain, ports_seen, port_numbers, times, times_at, AllNets, AllPortsNets}
+use Rattle.netlist_core.proofs.Common.{with_net, laid, laid_all}
 use Rattle.std.proofs.lemmas.Nat.{mod-pow-add}
 use Rattle.std.proofs.Math.Nat.{mod-eq_of_lt}
-use Rattle.netlist_core.specs.declared.bit.Bit.{Bit}
-use Rattle.netlist_core.specs.declared.bit.Bit.TheVariants.{Fixed, Net}
-use Rattle.netlist_core.specs.declared.raw.RawNetlist.{RawNetlist}
-use Rattle.netlist_core.specs.Numbers.{digit, number}
-use Rattle.netlist_core.specs.Runs.{Nets, values, Port, Sight, plain, ports_seen, port_numbers}
-use Rattle.netlist_core.specs.Drivers.{times, times_at}
-use Rattle.netlist_core.specs.Checked.{AllNets, AllPortsNets}
-use Rattle.netlist_core.specs.Settled.{with_net, laid, laid_all}
+use Rattle.netlist_core.specs.Runs.{Port}
 use Rattle.netlist_core.specs.Solutions.{FitPorts, StandTogether, IsCausal}
 use Rattle.netlist_core.proofs.Counting.{one_at-same, one_at-cases}
 
@@ -50,7 +43,7 @@ pub length-values : (nets : Nets) (bits : List Bit) → length (values nets bits
 length-values nets [] = refl
 length-values nets (b ∷ more) = ap suc (length-values nets more)
 
-fits-at : (bits : List Bool) (k : ℕ) → length bits ≡ k → number bits < 2 ^ k
+pub fits-at : (bits : List Bool) (k : ℕ) → length bits ≡ k → number bits < 2 ^ k
 fits-at [] zero e = omega arith
 fits-at [] (suc k) e = absurd (omega arith)
 fits-at (b ∷ more) zero e = absurd (omega arith)
@@ -110,7 +103,7 @@ laid-other nets (Net m ∷ more) v n none = elim (one_at-cases m n) [
 ]
 
 -- the low bits of a number are its parity, and the low bits of its half
-digit-low : (v k : ℕ) → digit (nat_eq (v % 2) 1) + 2 * (v / 2 % 2 ^ k) ≡ v % 2 ^ suc k
+pub digit-low : (v k : ℕ) → digit (nat_eq (v % 2) 1) + 2 * (v / 2 % 2 ^ k) ≡ v % 2 ^ suc k
 digit-low v k =
     let parts : v % 2 ^ (k + 1) ≡ (v / 2 ^ 1 % 2 ^ k) * 2 ^ 1 + v % 2 ^ 1 = mod-pow-add v k 1 in
     let same : k + 1 ≡ suc k = omega arith in

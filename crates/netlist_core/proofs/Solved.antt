@@ -1,25 +1,15 @@
 -- A netlist whose drivers are single and whose cells are in order has exactly one run.
-use Rattle.std.proofs.Common.{◌≡◌, ◌≢◌, ℕ, zero, suc, ◌+◌, ◌^◌, ◌<◌, ◌≤◌, Bool, List, [], ◌∷◌, ◌++◌, map, length, take, drop, get_or, slice_get, Option, Some, None, refl, sym, ◌∙◌, ap, subst, ◌⊎◌, inl, inr, arith}
-use Rattle.std.specs.List.{Contains}
-use Rattle.std.proofs.lemmas.Bool.Decides.{eqb_tells}
-use Rattle.std.proofs.lemmas.List.Elements.{Contains-append_cases}
-use Rattle.std.proofs.lemmas.Bool.{cases_lt}
-use Rattle.std.proofs.lemmas.List.{get_or-take, get_or-drop, get_or_default, length-take-le, length-drop, take-append-drop, drop_more}
-use Rattle.netlist_core.specs.declared.bit.Bit.{Bit}
-use Rattle.netlist_core.specs.declared.cell.Cell.{Cell}
-use Rattle.netlist_core.specs.declared.port.Register.{Register}
-use Rattle.netlist_core.specs.declared.raw.RawNetlist.{RawNetlist}
-use Rattle.netlist_core.specs.Numbers.{number}
+use Rattle.netlist_core.proofs.Common.{◌≡◌, ◌≢◌, ℕ, zero, suc, ◌+◌, ◌^◌, ◌<◌, ◌≤◌, Bool, List, [], ◌∷◌, ◌++◌, map, length, take, drop, get_or, slice_get, Option, Some, None, refl, sym, ◌∙◌, ap, subst}
+use Rattle.netlist_core.proofs.Common.{◌⊎◌, inl, inr, arith, Contains, eqb_tells, Contains-append_cases, cases_lt, get_or-take, get_or-drop, get_or_default, length-take-le, length-drop}
+use Rattle.netlist_core.proofs.Common.{take-append-drop, drop_more, Bit, Cell, Register, RawNetlist, number, Nets, values, Next, Outputs, Sight, bits_at, q_bits, d_bits, input_ports, output_port}
+use Rattle.netlist_core.proofs.Common.{ports_seen, Computes, port_numbers, Holds, shown, taken, IsRunBy, times, times_at, y_bits, drivers, readers, ports_of, Reads, IsLeastReady, IsOrder, AllNets}
+use Rattle.netlist_core.proofs.Common.{AllPortsNets, AllRegistersFit, IsFormed, IsConnected, y_of, laid, laid_all, number_at, after_cell, after_order, all_zero}
 use Rattle.netlist_core.specs.Cells.{cell_value}
-use Rattle.netlist_core.specs.Runs.{Nets, values, Next, Outputs, Sight, bits_at, q_bits, d_bits, input_ports, output_port, ports_seen, Computes, port_numbers, Holds, shown, taken, IsRunBy}
-use Rattle.netlist_core.specs.Drivers.{times, times_at, y_bits, drivers, cell_readers, readers}
-use Rattle.netlist_core.specs.Orders.{ports_of, IsLeastReady, IsOrder}
-use Rattle.netlist_core.specs.Checked.{AllNets, AllPortsNets, AllRegistersFit, IsFormed, IsConnected}
-use Rattle.netlist_core.specs.Listing.{y_of}
-use Rattle.netlist_core.specs.Settled.{laid, laid_all, number_at, after_cell, after_order, all_zero}
 use Rattle.netlist_core.specs.Solutions.{FitPorts, driving, StandTogether, IsCausal, settled, FitsInputs, FitsRegisters, AllFitInputs, AgreeDriven, HasOneRunBy}
 use Rattle.netlist_core.proofs.Owners.{y-one, y-two}
-use Rattle.netlist_core.proofs.Reading.{Contains-head, Contains-tail}
+use Rattle.netlist_core.proofs.CellPorts.{cell-at, cell-inside}
+use Rattle.netlist_core.proofs.Reading.{cell-reads, driver-inside}
+use Rattle.net_order.proofs.Reading.{Contains-head, Contains-tail}
 use Rattle.netlist_core.proofs.Settles.{AgreeAt, agree-numbers, agree-ports, ports-agree, values-agree, seen-agree, number-fits, laid-other, laid-number, laid_all-other, laid_all-numbers}
 
 -- Computing in an order.
@@ -51,26 +41,6 @@ y-nets : (cells : List Cell) (c : ℕ) → AllPortsNets (y_bits cells) → AllNe
 y-nets [] c all = tt
 y-nets (cell ∷ more) zero all = all.0
 y-nets (cell ∷ more) (suc c) all = y-nets more c all.1
-
-cell-reads : (cells : List Cell) (c n : ℕ) → times_at n (input_ports (ports_of (slice_get cells c))) ≤ cell_readers cells n
-cell-reads [] c n = omega arith
-cell-reads (cell ∷ more) zero n = omega arith
-cell-reads (cell ∷ more) (suc c) n = let rest = cell-reads more c n in omega (arith, rest)
-
-cell-at : (cells : List Cell) (c : ℕ) → c < length cells → (cell : Cell) × (slice_get cells c ≡ Some cell)
-cell-at [] c h = absurd (omega (arith, h))
-cell-at (cell ∷ more) zero h = (cell, refl)
-cell-at (cell ∷ more) (suc c) h = cell-at more c (omega (arith, h))
-
-cell-inside : (cells : List Cell) (c : ℕ) (cell : Cell) → slice_get cells c ≡ Some cell → c < length cells
-cell-inside [] c cell e = absurd (cc)
-cell-inside (x ∷ more) zero cell e = omega arith
-cell-inside (x ∷ more) (suc c) cell e = let rest = cell-inside more c cell e in omega (arith, rest)
-
-y-past : (cells : List Cell) (d n : ℕ) → length cells ≤ d → times n (output_port (ports_of (slice_get cells d))) ≡ 0
-y-past [] d n past = refl
-y-past (cell ∷ more) zero n past = absurd (omega (arith, past))
-y-past (cell ∷ more) (suc d) n past = y-past more d n (omega (arith, past))
 
 -- registers take what stands at their D
 taken-agree : (netlist : RawNetlist) (sight : Nets → Sight) → IsCausal netlist sight → (a b : Nets) (k : ℕ) (registers : List Register) → ((n m : ℕ) → 1 ≤ times_at n (d_bits registers) → StandTogether netlist n m → a m ≡ b m) → taken (sight a) k registers ≡ taken (sight b) k registers
@@ -113,7 +83,7 @@ y-at (cell ∷ more) bits (suc k) inside e = y-at more bits k (omega (arith, ins
 abbrev pub source_times : RawNetlist → ℕ → ℕ
 source_times netlist n = times_at n (bits_at netlist.inputs) + times_at n (q_bits netlist.registers)
 
-module _ (netlist : RawNetlist) (formed : IsFormed netlist) (connected : IsConnected netlist) (order : List ℕ) (is : IsOrder netlist order) (sight : Nets → Sight) (causal : IsCausal netlist sight) where
+module _ (netlist : RawNetlist) (formed : IsFormed netlist) (connected : IsConnected netlist) (order : List ℕ) (is : IsOrder (length netlist.cells) (Reads netlist) order) (sight : Nets → Sight) (causal : IsCausal netlist sight) where
   single : (n : ℕ) → source_times netlist n + times_at n (y_bits netlist.cells) ≤ 1
   single n = elim (cases_lt 1 (drivers netlist n)) [ inl two ↦ absurd (connected.driven.single n (omega (arith, two))) | inr few ↦ omega (arith, few) ]
 
@@ -167,8 +137,8 @@ module _ (netlist : RawNetlist) (formed : IsFormed netlist) (connected : IsConne
 
   -- The place of a cell.
 
-  at_place : (c : ℕ) (k : ℕ) → k < length order → get_or order k c ≡ c → IsLeastReady netlist (take k order) c
-  at_place c k l e = subst (λ (d : ℕ). IsLeastReady netlist (take k order) d) (get_or_default order k 0 c l ∙ e) (is.places k l)
+  at_place : (c : ℕ) (k : ℕ) → k < length order → get_or order k c ≡ c → IsLeastReady (length netlist.cells) (Reads netlist) (take k order) c
+  at_place c k l e = subst (λ (d : ℕ). IsLeastReady (length netlist.cells) (Reads netlist) (take k order) d) (get_or_default order k 0 c l ∙ e) (is.places k l)
 
   earlier : (c j k : ℕ) → j < k → k < length order → get_or order j c ≡ c → get_or order k c ≡ c → ⊥
   earlier c j k l inside a b = (at_place c k inside b).ready.unlisted (j, omega (arith, l, length-take-le k order (omega (arith, inside))), get_or-take k order j c l ∙ a)
@@ -194,7 +164,7 @@ module _ (netlist : RawNetlist) (formed : IsFormed netlist) (connected : IsConne
       let there = is.each c (cell-inside netlist.cells c cell found) in
       let k : ℕ = there.0 in
       let inside : k < length order = there.1 in
-      let ready : IsLeastReady netlist (take k order) c = at_place c k inside there.2 in
+      let ready : IsLeastReady (length netlist.cells) (Reads netlist) (take k order) c = at_place c k inside there.2 in
       let before : Nets = after_order sight netlist.cells (take k order) start in
       let y : List Bit = output_port cell.ports in
       let ins : List (List Bit) = input_ports cell.ports in
@@ -249,8 +219,8 @@ module _ (netlist : RawNetlist) (formed : IsFormed netlist) (connected : IsConne
     agree-cell : (m k c : ℕ) → k < m → k < length order → get_or order k c ≡ c → AgreeAt (y_of netlist c) a b
     agree-cell zero k c l inside at = absurd (omega (arith, l))
     agree-cell (suc m) k c l inside at =
-        let ready : IsLeastReady netlist (take k order) c = at_place c k inside at in
-        let there = cell-at netlist.cells c ready.ready.cell in
+        let ready : IsLeastReady (length netlist.cells) (Reads netlist) (take k order) c = at_place c k inside at in
+        let there = cell-at netlist.cells c ready.ready.node in
         let cell : Cell = there.0 in
         let found : slice_get netlist.cells c ≡ Some cell = there.1 in
         let y : List Bit = output_port cell.ports in
@@ -275,13 +245,10 @@ module _ (netlist : RawNetlist) (formed : IsFormed netlist) (connected : IsConne
     agree-driven n h = elim (driver_of n h) [
       | inl source ↦ agree-source n source
       | inr d ↦
-          let inside = y-inside d.0 n d.1 in
+          let inside = driver-inside netlist.cells d.0 n d.1 in
           let there = is.each d.0 inside in
           agree-cell (suc there.0) there.0 d.0 (omega arith) there.1 there.2 n d.1
     ]
-      where
-        y-inside : (d n : ℕ) → 1 ≤ times n (y_of netlist d) → d < length netlist.cells
-        y-inside d n h = elim (cases_lt d (length netlist.cells)) [ inl l ↦ l | inr past ↦ absurd (omega (arith, h, y-past netlist.cells d n past)) ]
 
     -- registers take the same
     pub same-taken : taken (sight a) 0 netlist.registers ≡ taken (sight b) 0 netlist.registers

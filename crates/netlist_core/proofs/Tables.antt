@@ -1,12 +1,7 @@
 -- A table of drivers as a function of the net.
-use Rattle.std.proofs.Common.{◌≡◌, ◌≢◌, ℕ, zero, suc, ◌+◌, ◌-◌, ◌<◌, max, true, List, [], ◌∷◌, ◌++◌, length, get_or, take, set, Option, Some, refl, sym, ◌∙◌, ap, subst, inl, inr, arith, length-set}
-use Rattle.std.proofs.lemmas.Bool.Decides.{eqb_tells}
-use Rattle.std.proofs.lemmas.List.{get_or-set_same, get_or-set_other, get_or_read}
-use Rattle.netlist_core.specs.declared.drivers.Driver.{Driver}
-use Rattle.netlist_core.specs.declared.drivers.Driver.TheVariants.{Nothing, Source, Cell}
-use Rattle.netlist_core.specs.declared.bit.Bit.{Bit}
-use Rattle.netlist_core.specs.Runs.{input_ports, output_port}
-use Rattle.netlist_core.specs.Marking.{Known, driver_at, with_driver, is_driven, lesser, with_room, after_net}
+use Rattle.netlist_core.proofs.Common.{◌≡◌, ◌≢◌, ℕ, zero, suc, ◌+◌, ◌<◌, max, true, List, [], ◌∷◌, ◌++◌, length, get_or, set, Option, Some, refl, sym, ◌∙◌, ap, subst, inl, inr, length-set, eqb_tells}
+use Rattle.netlist_core.proofs.Common.{get_or-set_same, get_or-set_other, get_or_read, Driver, Nothing, Source, Known, driver_at, with_driver, is_driven, lesser, with_room, after_net}
+use Rattle.netlist_core.specs.declared.drivers.Driver.TheVariants.{Cell}
 
 -- a default at the end is not seen
 reads-push : (table : List Driver) (m : ℕ) → driver_at (table ++ Nothing ∷ []) m ≡ driver_at table m
@@ -55,32 +50,3 @@ read-nothing table n x e is = let P : Driver → Type 0 = λ y. y ≡ get_or tab
 
 pub read-other : (table : List Driver) (n : ℕ) (x : Driver) → n < length table → x ≡ get_or table n x → x ≢ Nothing → driver_at table n ≢ Nothing
 read-other table n x inside e other is = other (get_or_read table n x inside e Nothing ∙ is)
-
--- the input ports are all but the last, which is Y
-pub input_ports-front : (ports : List (List Bit)) (k : ℕ) → length ports ≡ suc k → input_ports ports ≡ take k ports
-input_ports-front [] k e = absurd (omega (arith, e))
-input_ports-front (y ∷ []) zero e = refl
-input_ports-front (y ∷ []) (suc k) e = absurd (omega (arith, e))
-input_ports-front (a ∷ b ∷ more) zero e = absurd (omega (arith, e))
-input_ports-front (a ∷ b ∷ more) (suc k) e = ap (λ (l : List (List Bit)). a ∷ l) (input_ports-front (b ∷ more) k (omega (arith, e)))
-
-pub input_ports-take : (ports : List (List Bit)) (n : ℕ) → n ≡ length ports - 1 → take n ports ≡ input_ports ports
-input_ports-take [] n e = let none : n ≡ 0 = omega (arith, e) in rw none refl
-input_ports-take (a ∷ more) n e = let same : n ≡ length more = omega (arith, e) in rw same (sym (input_ports-front (a ∷ more) (length more) refl))
-
-pub output_port-last : (ports : List (List Bit)) (k : ℕ) (y : List Bit) → length ports ≡ suc k → y ≡ get_or ports k y → y ≡ output_port ports
-output_port-last [] k y e at = absurd (omega (arith, e))
-output_port-last (a ∷ []) zero y e at = at
-output_port-last (a ∷ []) (suc k) y e at = absurd (omega (arith, e))
-output_port-last (a ∷ b ∷ more) zero y e at = absurd (omega (arith, e))
-output_port-last (a ∷ b ∷ more) (suc k) y e at = output_port-last (b ∷ more) k y (omega (arith, e)) at
-
-pub output_port-none : (ports : List (List Bit)) → length ports ≡ 0 → output_port ports ≡ []
-output_port-none [] e = refl
-output_port-none (a ∷ more) e = absurd (omega (arith, e))
-
--- a lone port is Y
-pub input_ports-one : (ports : List (List Bit)) → length ports ≡ 1 → input_ports ports ≡ []
-input_ports-one [] one = refl
-input_ports-one (y ∷ []) one = refl
-input_ports-one (a ∷ b ∷ more) one = absurd (omega arith)

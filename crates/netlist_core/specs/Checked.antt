@@ -12,7 +12,8 @@ use Rattle.std.specs.Prelude.{slice_get, Option, Some, None}
 use Rattle.netlist_core.specs.Runs.{bits_at, q_bits}
 use Rattle.netlist_core.specs.Shapes.{HasShape}
 use Rattle.netlist_core.specs.Drivers.{y_bits, drivers, HasTwoDrivers, IsUndriven}
-use Rattle.netlist_core.specs.Orders.{IsOnLoop, IsOrder}
+use Rattle.netlist_core.specs.Orders.{Reads, IsOnLoop, IsOrder}
+pub use Rattle.net_order.specs.Orders.{Never, IsFirst}
 
 -- What is asked of the parts that are checked.
 
@@ -53,15 +54,6 @@ pub record IsFormed (netlist : RawNetlist) : Type 0 where
 
 -- Refusals, in order.
 
--- the number has the property, and no lesser one has it
-pub record IsFirst (P : ℕ → Type 0) (n : ℕ) : Type 0 where
-  pub here : P n
-  pub before : (m : ℕ) → m < n → ¬ P m
-
--- no number has the property
-abbrev pub Never : (ℕ → Type 0) → Type 0
-Never P = (n : ℕ) → ¬ P n
-
 -- the bits at ports together
 abbrev pub all_bits : List (List Bit) → ℕ
 all_bits [] = 0
@@ -96,7 +88,7 @@ pub record IsSmall (netlist : RawNetlist) : Type 0 where
 
 pub record IsShaped (netlist : RawNetlist) : Type 0 where
   pub small : IsSmall netlist
-  pub shapes : Never (IsMisshapen netlist)
+  pub shapes : (c : ℕ) (cell : Cell) → slice_get netlist.cells c ≡ Some cell → HasShape cell
 
 pub record IsDriven (netlist : RawNetlist) : Type 0 where
   pub shaped : IsShaped netlist
@@ -114,7 +106,7 @@ IsRefused netlist (TooMany other) = ⊥
 IsRefused netlist (BadShape c) = IsSmall netlist × IsFirst (IsMisshapen netlist) c
 IsRefused netlist (TwoDrivers n) = IsShaped netlist × IsFirst (HasTwoDrivers netlist) n
 IsRefused netlist (Undriven n) = IsDriven netlist × IsFirst (IsUndriven netlist) n
-IsRefused netlist (Loop c) = IsConnected netlist × IsFirst (IsOnLoop netlist) c
+IsRefused netlist (Loop c) = IsConnected netlist × IsFirst (IsOnLoop (Reads netlist)) c
 IsRefused netlist Memory = Unit {0}
 
 -- What a netlist that passes has.
@@ -128,7 +120,7 @@ pub record Plan : Type 0 where
 pub record IsSound (plan : Plan) : Type 0 where
   pub formed : IsFormed plan.raw
   pub connected : IsConnected plan.raw
-  pub loops : Never (IsOnLoop plan.raw)
-  pub order : IsOrder plan.raw plan.order
+  pub loops : Never (IsOnLoop (Reads plan.raw))
+  pub order : IsOrder (length plan.raw.cells) (Reads plan.raw) plan.order
   pub below : (n : ℕ) → 1 ≤ drivers plan.raw n → n < plan.nets
   pub last : (n : ℕ) → n + 1 ≡ plan.nets → 1 ≤ drivers plan.raw n

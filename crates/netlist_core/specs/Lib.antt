@@ -7,7 +7,7 @@ pub mod Orders
 pub mod Checked
 pub mod Sizes
 pub mod Marking
-pub mod Listing
-pub mod Reaching
+pub mod Sources
+pub mod Below
 pub mod Settled
 pub mod Solutions

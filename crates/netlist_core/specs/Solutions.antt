@@ -4,7 +4,7 @@ use Rattle.std.specs.List.{Contains}
 use Rattle.netlist_core.specs.declared.bit.Bit.{Bit}
 use Rattle.netlist_core.specs.declared.raw.RawNetlist.{RawNetlist}
 use Rattle.netlist_core.specs.Runs.{Nets, Reader, Sight, bits_at, q_bits, IsRunBy, plain, Holds, shown, taken}
-use Rattle.netlist_core.specs.Orders.{IsOrder}
+use Rattle.netlist_core.specs.Orders.{Reads, IsOrder}
 use Rattle.netlist_core.specs.Checked.{Plan, IsSound}
 use Rattle.netlist_core.specs.Settled.{laid_all, after_order}
 use Rattle.netlist_core.specs.Drivers.{times, y_bits, drivers}
@@ -81,4 +81,4 @@ OrderSettles = (plan : Plan) (sight : Nets → Sight) → IsSound plan → IsCau
 
 -- two orders of a netlist are one
 abbrev pub OneOrder : Type 0
-OneOrder = (netlist : RawNetlist) (xs ys : List ℕ) → IsOrder netlist xs → IsOrder netlist ys → xs ≡ ys
+OneOrder = (netlist : RawNetlist) (xs ys : List ℕ) → IsOrder (length netlist.cells) (Reads netlist) xs → IsOrder (length netlist.cells) (Reads netlist) ys → xs ≡ ys

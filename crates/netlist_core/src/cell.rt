@@ -64,14 +64,14 @@ impl Drop for Cell {
 pub type CellList = Items<Cell>;
 
 /// The input ports: all ports of a cell but the last.
-pub(crate) fn inputs(ports: &[BitList]) -> &[BitList]
+pub fn input_ports(ports: &[BitList]) -> &[BitList]
     ensures { result.now ≡ input_ports ports.now }
 {
     &ports[..ports.len().saturating_sub(1)]
 }
 
 /// The bits of Y, the last port.
-pub(crate) fn output(ports: &[BitList]) -> &[Bit]
+pub fn output_port(ports: &[BitList]) -> &[Bit]
     ensures { result.now ≡ output_port ports.now }
 {
     if ports.is_empty() {

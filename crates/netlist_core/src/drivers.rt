@@ -4,10 +4,11 @@
 //! is the least net that has another. A net past the table's end is driven by nothing, and the last net in it is driven.
 ghost use Rattle.std.specs.Prelude.{◌≡◌, ◌+◌, ◌<◌, ◌≤◌, OnOk, IfOk, length, vec_len};
 ghost use Rattle.netlist_core.specs.Runs.{bits_at, d_bits, input_ports, output_port};
+ghost use Rattle.netlist_core.specs.Checked.{max_cells};
 ghost use Rattle.netlist_core.specs.Marking.{Known, known_of, driver_at, is_driven, lesser, with_room, after_net, after_bits, after_ports, after_registers, after_cells, all_known, undriven_net, undriven_bits, undriven_at, undriven_cells, all_undriven};
 
 use crate::bit::{Bit, BitList};
-use crate::cell::{Cell, inputs, output};
+use crate::cell::{Cell, input_ports, output_port};
 use crate::port::{Port, Register};
 use crate::raw::RawNetlist;
 use std::alloc::{AllocError, Global};
@@ -42,7 +43,7 @@ fn lesser_of(found: Option<u32>, net: u32) -> u32
 impl Drivers {
     /// The drivers of the nets of a netlist.
     pub(crate) fn of(alloc: Global, raw: &RawNetlist) -> Result<Drivers, AllocError>
-        requires { length raw.now.cells ≤ 65536 }
+        requires { length raw.now.cells ≤ max_cells }
         ensures { IfOk result (λ d. known_of d ≡ all_known raw.now) }
     {
         let mut drivers = Drivers {
@@ -125,11 +126,14 @@ impl Drivers {
     }
 
     fn drive_cells(&mut self, cells: &[Cell]) -> Result<(), AllocError>
-        requires { length cells.now ≤ 65536 }
+        requires { length cells.now ≤ max_cells }
         ensures { OnOk result (known_of self.new ≡ after_cells 0 cells.now (known_of self.old)) }
     {
         for i in 0..cells.len() {
-            self.drive(Driver::Cell(i as u32), output(cells[i].ports.as_slice()))?;
+            self.drive(
+                Driver::Cell(i as u32),
+                output_port(cells[i].ports.as_slice()),
+            )?;
         }
         Ok(())
     }
@@ -181,7 +185,7 @@ fn undriven_of_cells(table: &[Driver], cells: &[Cell], mut found: Option<u32>) -
     ensures { result ≡ undriven_cells (driver_at table.now) cells.now found }
 {
     for cell in cells {
-        found = undriven_at(table, inputs(cell.ports.as_slice()), found);
+        found = undriven_at(table, input_ports(cell.ports.as_slice()), found);
     }
     found
 }

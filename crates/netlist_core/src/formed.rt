@@ -5,7 +5,7 @@ ghost use Rattle.netlist_core.specs.Drivers.{y_bits};
 ghost use Rattle.netlist_core.specs.Checked.{AllWide, AllNets, AllPortsNets, AllRegistersFit, AllCellsWide, IsFormed};
 
 use crate::bit::{Bit, BitList};
-use crate::cell::{Cell, output};
+use crate::cell::{Cell, output_port};
 use crate::port::{Port, Register};
 use crate::raw::RawNetlist;
 
@@ -113,7 +113,7 @@ fn are_computed(cells: &[Cell]) -> bool
     ensures { IsTrue result ↔ AllPortsNets (y_bits cells.now) }
 {
     for cell in cells {
-        if !are_nets(output(cell.ports.as_slice())) {
+        if !are_nets(output_port(cell.ports.as_slice())) {
             return false;
         }
     }

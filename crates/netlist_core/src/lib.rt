@@ -1,11 +1,10 @@
 //! The netlist: cells, registers and the nets between them, which netlists can be run, and what a run is.
 //!
 //! `Netlist::check` goes over the parts five times: `size` counts cells and bits, `shape` compares widths, `drivers` makes the
-//! table of drivers, net by net, and looks in it for each net that is read, `listing` lists the cells, and `loops` looks for the
-//! least cell on a loop where some are left. In its specs, `Cells` is the table of cell kinds, `Shapes` the widths of their
-//! ports, `Runs` the equations of a run, `Drivers` and `Orders` what drives and reads what, `Checked` the refusals, and
-//! `Solutions` exactly one run and the laws; `Marking`, `Listing`, `Reaching`, `Settled` and `Sizes` say what the code's steps
-//! compute.
+//! table of drivers, net by net, and looks in it for each net that is read, and `reads` tells which cells each cell reads, of which
+//! `net_order` finds the order or the least one on a loop. In its specs, `Cells` is the table of cell kinds, `Shapes` the widths
+//! of their ports, `Runs` the equations of a run, `Drivers` and `Orders` what drives and reads what, `Checked` the refusals, and
+//! `Solutions` exactly one run and the laws; `Marking`, `Sources`, `Settled` and `Sizes` say what the code's steps compute.
 #![tactic(auto)]
 
 mod bit;
@@ -15,8 +14,6 @@ mod copy;
 mod drivers;
 mod formed;
 mod laws;
-mod listing;
-mod loops;
 mod netlist;
 mod port;
 mod raw;
@@ -25,7 +22,7 @@ mod shape;
 mod size;
 
 pub use bit::{Bit, BitList, PortList};
-pub use cell::{Cell, CellKind, CellList};
+pub use cell::{Cell, CellKind, CellList, input_ports, output_port};
 pub use copy::{copy_bits, copy_port_list, copy_raw};
 pub use formed::is_formed;
 pub use laws::one_run;
@@ -33,3 +30,4 @@ pub use netlist::{NetError, Netlist};
 pub use port::{Port, Ports, Register, RegisterList};
 pub use raw::RawNetlist;
 pub use shape::{Shape, has_shape};
+pub use size::{net_bits, register_bits};

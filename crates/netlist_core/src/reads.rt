@@ -1,26 +1,26 @@
 //! Which cells each cell reads.
 ghost use Rattle.std.specs.Prelude.{◌≡◌, ◌++◌, ℕ, List, IfOk, OnOk, map};
 ghost use Rattle.netlist_core.specs.Marking.{driver_at};
-ghost use Rattle.netlist_core.specs.Listing.{with_source, sources, sources_at, all_sources};
+ghost use Rattle.netlist_core.specs.Sources.{with_source, sources, sources_at, all_sources};
 
 use crate::bit::{Bit, BitList};
-use crate::cell::{Cell, inputs};
+use crate::cell::{Cell, input_ports};
 use crate::drivers::{Driver, driver_of};
 use std::alloc::{AllocError, Global};
 
 /// Adds the cell that drives, if one does.
-fn add_source(driver: Driver, found: &mut Vec<u32>) -> Result<(), AllocError>
+fn add_source(driver: Driver, found: &mut Vec<usize>) -> Result<(), AllocError>
     ensures { OnOk result ((rest : List ℕ) → found.new.items ++ rest ≡ found.old.items ++ with_source driver rest) }
 {
     match driver {
-        Driver::Cell(c) => found.push(c)?,
+        Driver::Cell(c) => found.push(c as usize)?,
         Driver::Nothing | Driver::Source => {}
     }
     Ok(())
 }
 
 /// Adds the cells that drive bits.
-fn add_sources(table: &[Driver], bits: &[Bit], found: &mut Vec<u32>) -> Result<(), AllocError>
+fn add_sources(table: &[Driver], bits: &[Bit], found: &mut Vec<usize>) -> Result<(), AllocError>
     ensures { OnOk result (found.new.items ≡ found.old.items ++ sources (driver_at table.now) bits.now) }
 {
     for bit in bits {
@@ -32,7 +32,7 @@ fn add_sources(table: &[Driver], bits: &[Bit], found: &mut Vec<u32>) -> Result<(
 }
 
 /// The cells that drive the bits at ports.
-fn sources_at(alloc: Global, table: &[Driver], ports: &[BitList]) -> Result<Vec<u32>, AllocError>
+fn sources_at(alloc: Global, table: &[Driver], ports: &[BitList]) -> Result<Vec<usize>, AllocError>
     ensures { IfOk result (λ v. v.items ≡ sources_at (driver_at table.now) ports.now) }
 {
     let mut found = Vec::new(alloc);
@@ -47,12 +47,12 @@ pub(crate) fn all_sources(
     alloc: Global,
     table: &[Driver],
     cells: &[Cell],
-) -> Result<Vec<Vec<u32>>, AllocError>
+) -> Result<Vec<Vec<usize>>, AllocError>
     ensures { IfOk result (λ v. map (λ w. w.items) v.items ≡ all_sources (driver_at table.now) cells.now) }
 {
     let mut lists = Vec::new(alloc);
     for cell in cells {
-        lists.push(sources_at(alloc, table, inputs(cell.ports.as_slice()))?)?;
+        lists.push(sources_at(alloc, table, input_ports(cell.ports.as_slice()))?)?;
     }
     Ok(lists)
 }

@@ -5,7 +5,7 @@ ghost use Rattle.netlist_core.specs.Drivers.{y_bits};
 ghost use Rattle.netlist_core.specs.Checked.{all_bits, net_bits, free_bits};
 ghost use Rattle.netlist_core.specs.Sizes.{counted};
 
-use crate::cell::{Cell, output};
+use crate::cell::{Cell, output_port};
 use crate::port::{Port, Register};
 use crate::raw::RawNetlist;
 
@@ -21,7 +21,7 @@ fn port_bits(ports: &[Port]) -> usize
 }
 
 /// The bits of registers together.
-fn register_bits(registers: &[Register]) -> usize
+pub fn register_bits(registers: &[Register]) -> usize
     ensures { result ≡ counted (all_bits (q_bits registers.now)) }
 {
     let mut total: usize = 0;
@@ -37,13 +37,13 @@ fn cell_bits(cells: &[Cell]) -> usize
 {
     let mut total: usize = 0;
     for cell in cells {
-        total = total.saturating_add(output(cell.ports.as_slice()).len());
+        total = total.saturating_add(output_port(cell.ports.as_slice()).len());
     }
     total
 }
 
 /// The bits of inputs, outputs, registers and cells' Y together.
-pub(crate) fn net_bits(raw: &RawNetlist) -> usize
+pub fn net_bits(raw: &RawNetlist) -> usize
     ensures { result ≡ counted (net_bits raw.now) }
 {
     port_bits(raw.inputs.as_slice())

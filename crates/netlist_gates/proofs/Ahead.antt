@@ -1,20 +1,9 @@
 -- Ports whose nets are laid one after the other, and the limits of their nets.
-use Rattle.std.proofs.Common.{◌≡◌, ℕ, zero, suc, ◌+◌, ◌<◌, ◌≤◌, false, List, [], ◌∷◌, length, slice_get, Option, Some, refl, sym, ap, subst, inl, inr, arith, drop, get_or, replicate}
-use Rattle.std.proofs.lemmas.Bool.Decides.{eqb_tells}
-use Rattle.std.proofs.lemmas.List.{drop_more}
-use Rattle.netlist_core.specs.declared.bit.Bit.{Bit}
-use Rattle.netlist_core.specs.declared.bit.Bit.TheVariants.{Fixed, Net}
-use Rattle.netlist_core.specs.declared.port.Port.{Port}
-use Rattle.netlist_core.specs.declared.port.Register.{Register}
-use Rattle.netlist_core.specs.Runs.{bits_at, q_bits}
-use Rattle.netlist_core.specs.Drivers.{times, times_at}
-use Rattle.netlist_core.specs.declared.cell.Cell.{Cell}
-use Rattle.netlist_core.specs.Runs.{output_port}
-use Rattle.netlist_core.specs.Orders.{ports_of}
-use Rattle.netlist_core.specs.Checked.{all_bits, Plan, IsSound}
-use Rattle.netlist_core.proofs.Owners.{y-one}
+use Rattle.netlist_gates.proofs.Common.{◌≡◌, ℕ, zero, suc, ◌+◌, ◌<◌, ◌≤◌, false, List, [], ◌∷◌, length, refl, ap, subst, arith, drop, get_or, replicate, drop_more, Bit, Port, Register, bits_at}
+use Rattle.netlist_gates.proofs.Common.{q_bits, all_bits, Plan, IsSound, bits-below, Lits, lits_of, no_lits, laid_lits, variables, laid_free}
+use Rattle.netlist_core.specs.Drivers.{times_at}
+use Rattle.netlist_core.specs.Below.{PortsBelow}
 use Rattle.gate_list.specs.declared.literal.GateLit.TheVariants as lit
-use Rattle.netlist_gates.specs.NetLits.{Lits, lits_of, no_lits, AreBelow, laid_lits, variables, laid_free, PortsBelow}
 
 -- what is laid so far, the next variable, and what is left
 pub record LaidAhead (limit first : ℕ) (start : Lits) (ports : List (List Bit)) (next : ℕ) (lits : Lits) (rest : List (List Bit)) : Type 0 where
@@ -46,14 +35,6 @@ register-laid limit first start registers next lits i d new count inside ahead i
 
 -- Nets that are driven are in the table.
 
-bits-below : (limit : ℕ) (bits : List Bit) → ((n : ℕ) → 1 ≤ times n bits → n < limit) → AreBelow limit bits
-bits-below limit [] h = tt
-bits-below limit (Fixed b ∷ more) h = bits-below limit more h
-bits-below limit (Net n ∷ more) h = (
-  elim (eqb_tells n n) [ inl same ↦ (let once : times n (Net n ∷ more) ≡ 1 + times n more = rw same.0 refl in h n (omega (arith, once))) | inr other ↦ absurd (other.1 refl) ],
-  bits-below limit more (λ m some. h m (omega (arith, some))),
-)
-
 ports-below : (limit : ℕ) (ports : List (List Bit)) → ((n : ℕ) → 1 ≤ times_at n ports → n < limit) → PortsBelow limit ports
 ports-below limit [] h = tt
 ports-below limit (bits ∷ more) h = (bits-below limit bits (λ n some. h n (omega (arith, some))), ports-below limit more (λ n some. h n (omega (arith, some))))
@@ -63,12 +44,6 @@ inputs-below plan sound = ports-below plan.nets (bits_at plan.raw.inputs) (λ n 
 
 pub registers-below : (plan : Plan) → IsSound plan → PortsBelow plan.nets (q_bits plan.raw.registers)
 registers-below plan sound = ports-below plan.nets (q_bits plan.raw.registers) (λ n some. sound.below n (omega (arith, some)))
-
--- the nets of a cell's Y
-pub output-below : (plan : Plan) → IsSound plan → (c : ℕ) (cell : Cell) → slice_get plan.raw.cells c ≡ Some cell → AreBelow plan.nets (output_port cell.ports)
-output-below plan sound c cell is = bits-below plan.nets (output_port cell.ports) (λ n some.
-    let here : 1 ≤ times n (output_port (ports_of (slice_get plan.raw.cells c))) = subst (λ (o : Option Cell). 1 ≤ times n (output_port (ports_of o))) (sym is) some in
-    sound.below n (omega (arith, here, y-one plan.raw.cells c n)))
 
 -- a table in which nothing was laid
 zero-at : (count n : ℕ) → get_or (replicate count (lit.Fixed false)) n (lit.Fixed false) ≡ lit.Fixed false

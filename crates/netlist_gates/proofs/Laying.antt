@@ -1,22 +1,11 @@
 -- What a row that is laid is worth: its number laid on the nets.
-use Rattle.std.proofs.Common.{◌≡◌, ℕ, zero, suc, ◌+◌, ◌*◌, ◌/◌, ◌%◌, ◌^◌, ◌<◌, Bool, true, false, List, [], ◌∷◌, length, map, nat_eq, refl, sym, ap, subst, ◌∙◌, arith, if◌then◌else◌}
-use Rattle.std.proofs.lemmas.List.{length-map}
+use Rattle.netlist_gates.proofs.Common.{◌≡◌, ℕ, zero, suc, ◌+◌, ◌*◌, ◌/◌, ◌%◌, ◌^◌, ◌<◌, Bool, true, false, List, [], ◌∷◌, length, map, nat_eq, refl, sym, ap, subst, ◌∙◌, arith, if◌then◌else◌}
+use Rattle.netlist_gates.proofs.Common.{length-map, Bit, Fixed, Net, Nets, bit_values, bit_value, plain, ports_seen, with_net, laid, laid_all, FitPorts, widths, number-fits, GateLit, lit_value}
+use Rattle.netlist_gates.proofs.Common.{lit_values, Lits, bit_lit, bits_lits, ports_lits, with_lit, laid_lits, variables, laid_free, nets_of, free_numbers}
 use Rattle.std.proofs.lemmas.Nat.{mod-pow-add}
 use Rattle.std.proofs.Math.Nat.{mod-eq_of_lt}
 use Rattle.clause_store.specs.Clauses.{Values}
-use Rattle.netlist_core.specs.declared.bit.Bit.{Bit}
-use Rattle.netlist_core.specs.declared.bit.Bit.TheVariants.{Fixed, Net}
 use Rattle.netlist_core.specs.Numbers.{digit, number}
-use Rattle.netlist_core.specs.Runs.{Nets, values as bit_values, bit_value, plain, ports_seen}
-use Rattle.netlist_core.specs.Settled.{with_net, laid, laid_all}
-use Rattle.netlist_core.specs.Solutions.{FitPorts}
-use Rattle.netlist_core.specs.Shapes.{widths}
-use Rattle.netlist_core.proofs.Settles.{number-fits}
-use Rattle.gate_list.specs.declared.literal.GateLit.{GateLit}
-use Rattle.gate_list.specs.Gates.{lit_value}
-use Rattle.gate_words.specs.Bits.{lit_values}
-use Rattle.netlist_gates.specs.NetLits.{Lits, bit_lit, bits_lits, ports_lits, with_lit, laid_lits, variables, laid_free, nets_of}
-use Rattle.netlist_gates.specs.Meanings.{free_numbers}
 
 -- What is read has the bits' values.
 

@@ -1,4 +1,4 @@
-pub mod Shaped
+mod Common
 pub mod Laying
 pub mod Within
 pub mod Solving

@@ -1,29 +1,15 @@
 -- Wherever the gates hold, the nets have the values that the cells in their order give them.
-use Rattle.std.proofs.Common.{◌≡◌, ℕ, ◌≤◌, List, [], ◌∷◌, length, slice_get, Option, Some, None, refl, sym, ap, subst, ◌∙◌, arith}
+use Rattle.netlist_gates.proofs.Common.{◌≡◌, ℕ, ◌≤◌, List, [], ◌∷◌, length, slice_get, Option, Some, None, refl, sym, ap, subst, ◌∙◌, arith, Bit, Cell, RawNetlist, Nets, bits_at, q_bits, input_ports}
+use Rattle.netlist_gates.proofs.Common.{output_port, plain, Holds, HasShape, free_bits, AllWide, Plan, IsSound, laid_all, number_at, after_cell, after_order, all_zero, settled, OrderSettles}
+use Rattle.netlist_gates.proofs.Common.{plain-causal, GateLit, Gates, Hold, Grows, AddsBits, hold-before, grows-none, grows-then, Lits, no_lits, ports_lits, laid_free, AreWithin, nets_of, MadeNets}
+use Rattle.netlist_gates.proofs.Common.{first_input, first_register, free_lits, with_cell, with_cells, netlist_made, cell_weight, weight_of, input_numbers, register_numbers, Solves, cell-wide}
 use Rattle.clause_store.specs.Clauses.{Values}
-use Rattle.netlist_core.specs.declared.bit.Bit.{Bit}
-use Rattle.netlist_core.specs.declared.cell.Cell.{Cell}
-use Rattle.netlist_core.specs.declared.raw.RawNetlist.{RawNetlist}
 use Rattle.netlist_core.specs.Cells.{cell_value}
-use Rattle.netlist_core.specs.Runs.{Nets, bits_at, q_bits, input_ports, output_port, plain, Holds}
-use Rattle.netlist_core.specs.Shapes.{HasShape}
-use Rattle.netlist_core.specs.Checked.{free_bits, AllWide, Plan, IsSound}
-use Rattle.netlist_core.specs.Settled.{laid_all, number_at, after_cell, after_order, all_zero}
-use Rattle.netlist_core.specs.Solutions.{settled, OrderSettles}
-use Rattle.netlist_core.proofs.Settles.{plain-causal}
-use Rattle.gate_list.specs.declared.literal.GateLit.{GateLit}
-use Rattle.gate_list.specs.Gates.{Gates, Hold}
-use Rattle.gate_words.specs.Bits.{Grows, AddsBits}
 use Rattle.gate_words.specs.Rows.{MadeRow}
-use Rattle.gate_words.proofs.Growing.{hold-before, grows-none, grows-then}
 use Rattle.cell_gates.specs.CellRows.{cell_row}
 use Rattle.cell_gates.specs.Meanings.{CellIs}
 use Rattle.cell_gates.proofs.PortWidths.{cell-told}
-use Rattle.netlist_gates.specs.NetLits.{Lits, no_lits, ports_lits, laid_free, AreWithin, nets_of}
-use Rattle.netlist_gates.specs.Made.{MadeNets, first_input, first_register, free_lits, with_cell, with_cells, netlist_made, cell_weight, weight_of}
-use Rattle.netlist_gates.specs.Meanings.{input_numbers, register_numbers, Solves}
 use Rattle.netlist_gates.proofs.Laying.{ports-worth, ports-wide, row-laid, free-worth, free-fit}
-use Rattle.netlist_gates.proofs.Shaped.{cell-shape, cell-wide}
 use Rattle.netlist_gates.proofs.Within.{within-later, ports-within, laid-within, free-within, none-within}
 
 -- each cell has the ports of its kind
@@ -31,7 +17,7 @@ abbrev pub AreShaped : List Cell → Type 0
 AreShaped cells = (c : ℕ) (cell : Cell) → slice_get cells c ≡ Some cell → HasShape cell × AllWide cell.ports
 
 pub sound-shaped : (plan : Plan) → IsSound plan → AreShaped plan.raw.cells
-sound-shaped plan sound c cell is = (cell-shape plan sound c cell is, cell-wide plan sound c cell is)
+sound-shaped plan sound c cell is = (sound.connected.driven.shaped.shapes c cell is, cell-wide plan sound c cell is)
 
 -- what was added is at most so much, and the nets have the values that they come to
 pub record Leads (old new : MadeNets) (most : ℕ) (settle : Nets → Nets) : Type 0 where

@@ -1,15 +1,7 @@
 -- Literals of variables that there are.
-use Rattle.std.proofs.Common.{ℕ, zero, suc, ◌+◌, ◌≤◌, Bool, true, false, List, [], ◌∷◌, length, nat_eq, arith, if◌then◌else◌}
-use Rattle.std.specs.List.{All}
+use Rattle.netlist_gates.proofs.Common.{ℕ, zero, suc, ◌+◌, ◌≤◌, Bool, true, false, List, [], ◌∷◌, length, nat_eq, arith, if◌then◌else◌, All, Bit, Fixed, Net, all_bits, GateLit, Gates, count, IsLit}
+use Rattle.netlist_gates.proofs.Common.{Grows, lit-later, Lits, no_lits, bit_lit, bits_lits, ports_lits, with_lit, laid_lits, variables, laid_free, AreWithin}
 use Rattle.std.proofs.lemmas.List.Elements.{All-nil, All-cons, All-head, All-tail}
-use Rattle.netlist_core.specs.declared.bit.Bit.{Bit}
-use Rattle.netlist_core.specs.declared.bit.Bit.TheVariants.{Fixed, Net}
-use Rattle.netlist_core.specs.Checked.{all_bits}
-use Rattle.gate_list.specs.declared.literal.GateLit.{GateLit}
-use Rattle.gate_list.specs.Gates.{Gates, count, IsLit}
-use Rattle.gate_words.specs.Bits.{Grows}
-use Rattle.gate_words.proofs.Growing.{lit-later}
-use Rattle.netlist_gates.specs.NetLits.{Lits, no_lits, bit_lit, bits_lits, ports_lits, with_lit, laid_lits, variables, laid_free, AreWithin}
 
 pub within-later : {old new : Gates} {most : ℕ} → Grows old new most → (lits : Lits) → AreWithin old lits → AreWithin new lits
 within-later g lits are n = lit-later g (lits n) (are n)

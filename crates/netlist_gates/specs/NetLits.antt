@@ -1,5 +1,5 @@
 -- The literals of nets, and how bits and rows of literals go together.
-use Rattle.std.specs.Prelude.{ℕ, zero, suc, ◌+◌, ◌<◌, false, List, [], ◌∷◌, length, map, nat_eq, pos, slice_index_or, if◌then◌else◌}
+use Rattle.std.specs.Prelude.{ℕ, zero, suc, ◌+◌, false, List, [], ◌∷◌, length, map, nat_eq, pos, slice_index_or, if◌then◌else◌}
 use Rattle.clause_store.specs.Clauses.{Values}
 use Rattle.netlist_core.specs.declared.bit.Bit.{Bit}
 use Rattle.netlist_core.specs.declared.bit.Bit.TheVariants.{Fixed, Net}
@@ -51,16 +51,6 @@ variables first (suc n) = lit.Var (pos first) ∷ variables (first + 1) n
 abbrev pub laid_free : Lits → ℕ → List (List Bit) → Lits
 laid_free lits first [] = lits
 laid_free lits first (bits ∷ more) = laid_free (laid_lits lits bits (variables first (length bits))) (first + length bits) more
-
--- each net of the bits is below the limit, and each of the ports
-abbrev pub AreBelow : ℕ → List Bit → Type 0
-AreBelow limit [] = Unit {0}
-AreBelow limit (Fixed b ∷ more) = AreBelow limit more
-AreBelow limit (Net n ∷ more) = (n < limit) × AreBelow limit more
-
-abbrev pub PortsBelow : ℕ → List (List Bit) → Type 0
-PortsBelow limit [] = Unit {0}
-PortsBelow limit (bits ∷ more) = AreBelow limit bits × PortsBelow limit more
 
 -- each literal is a constant, or names a variable that there is
 abbrev pub AreWithin : Gates → Lits → Type 0

@@ -1,10 +1,11 @@
 //! The cells of a netlist as gates, in its order.
 ghost use Rattle.std.specs.Prelude.{◌≡◌, ◌≤◌, ◌<◌, IfOk, IfErr, OnOk, Some, length};
-ghost use Rattle.netlist_core.specs.Runs.{input_ports, output_port};
+ghost use Rattle.netlist_core.specs.Runs.{output_port};
 ghost use Rattle.netlist_core.specs.Shapes.{HasShape};
 ghost use Rattle.netlist_core.specs.Checked.{AllWide, free_bits};
 ghost use Rattle.gate_words.specs.Bits.{Grows};
-ghost use Rattle.netlist_gates.specs.NetLits.{lits_of, AreBelow, AreWithin};
+ghost use Rattle.netlist_core.specs.Below.{AllBelow};
+ghost use Rattle.netlist_gates.specs.NetLits.{lits_of, AreWithin};
 ghost use Rattle.netlist_gates.specs.Made.{with_cell, with_cells, netlist_made, weight_of};
 ghost use Rattle.netlist_gates.specs.Meanings.{Solves};
 
@@ -12,26 +13,8 @@ use crate::free::free_literals;
 use crate::lits::{NetLits, lay, rows_at};
 use cell_gates::{GateError, cell_gates};
 use gate_list::{GateList, GateLit};
-use netlist_core::{Bit, BitList, Cell, Netlist, one_run};
+use netlist_core::{Cell, Netlist, input_ports, one_run, output_port};
 use std::alloc::Global;
-
-/// The input ports: all ports of a cell but the last.
-fn inputs(ports: &[BitList]) -> &[BitList]
-    ensures { result.now ≡ input_ports ports.now }
-{
-    &ports[..ports.len().saturating_sub(1)]
-}
-
-/// The bits of Y, the last port.
-fn output(ports: &[BitList]) -> &[Bit]
-    ensures { result.now ≡ output_port ports.now }
-{
-    match ports {
-        [] => &[],
-        [y] => y.as_slice(),
-        [_, rest @ ..] => output(rest),
-    }
-}
 
 /// Adds a cell, and gives the nets of its Y their literals.
 fn add_cell(
@@ -42,7 +25,7 @@ fn add_cell(
 ) -> Result<(), GateError>
     requires shape { HasShape cell.now }
     requires wide { AllWide cell.now.ports }
-    requires below { AreBelow (length table.old.items) (output_port cell.now.ports) }
+    requires below { AllBelow (length table.old.items) (output_port cell.now.ports) }
     requires within { AreWithin gates.old (lits_of table.old.items) }
     ensures made { OnOk result (record { gates = gates.new; lits = lits_of table.new.items } ≡ with_cell (Some cell.now) (record { gates = gates.old; lits = lits_of table.old.items })) }
     ensures within { OnOk result (AreWithin gates.new (lits_of table.new.items)) }
@@ -51,9 +34,9 @@ fn add_cell(
     ensures too_many { IfErr result (λ e. e ≡ GateError.TooMany → 200000 < length (with_cell (Some cell.now) (record { gates = gates.old; lits = lits_of table.old.items })).gates.made) }
 {
     let ports = cell.ports.as_slice();
-    let rows = rows_at(alloc, table.as_slice(), inputs(ports))?;
+    let rows = rows_at(alloc, table.as_slice(), input_ports(ports))?;
     let row = cell_gates(alloc, cell, rows.as_slice(), gates)?;
-    lay(table, output(ports), row.as_slice());
+    lay(table, output_port(ports), row.as_slice());
     Ok(())
 }
 

@@ -3,7 +3,8 @@ ghost use Rattle.std.specs.Prelude.{◌≡◌, ◌+◌, ◌<◌, ◌≤◌, ◌^
 ghost use Rattle.gate_list.specs.declared.literal.GateLit.TheVariants.{Var};
 ghost use Rattle.netlist_core.specs.Runs.{bits_at, q_bits};
 ghost use Rattle.netlist_core.specs.Checked.{all_bits, free_bits};
-ghost use Rattle.netlist_gates.specs.NetLits.{AreBelow, PortsBelow, lits_of, variables, laid_lits, laid_free};
+ghost use Rattle.netlist_core.specs.Below.{AllBelow, PortsBelow};
+ghost use Rattle.netlist_gates.specs.NetLits.{lits_of, variables, laid_lits, laid_free};
 ghost use Rattle.netlist_gates.specs.Made.{free_lits};
 
 use crate::lits::set;
@@ -21,7 +22,7 @@ fn variable(number: u32) -> GateLit
 
 /// Gives the nets of bits the variables from this one on.
 fn lay_variables(table: &mut Vec<GateLit>, first: u32, bits: &[Bit])
-    requires below { AreBelow (length table.old.items) bits.now }
+    requires below { AllBelow (length table.old.items) bits.now }
     requires few { first + length bits.now < 2 ^ 31 }
     ensures laid { lits_of table.new.items ≡ laid_lits (lits_of table.old.items) bits.now (variables first (length bits.now)) }
     ensures long { length table.new.items ≡ length table.old.items }

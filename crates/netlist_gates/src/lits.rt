@@ -2,7 +2,8 @@
 //!
 //! Contracts see the table as a list; a net past its end is 0.
 ghost use Rattle.std.specs.Prelude.{◌≡◌, ◌<◌, ◌≤◌, ◌++◌, ◌∷◌, [], IfOk, OnOk, length};
-ghost use Rattle.netlist_gates.specs.NetLits.{AreBelow, lits_of, bit_lit, bits_lits, ports_lits, with_lit, laid_lits};
+ghost use Rattle.netlist_core.specs.Below.{AllBelow};
+ghost use Rattle.netlist_gates.specs.NetLits.{lits_of, bit_lit, bits_lits, ports_lits, with_lit, laid_lits};
 
 use cell_gates::GateBits;
 use gate_list::GateLit;
@@ -90,7 +91,7 @@ pub(crate) fn rows_at(
 
 /// Gives a bit's net a literal.
 pub(crate) fn set(table: &mut Vec<GateLit>, bit: Bit, literal: GateLit)
-    requires { AreBelow (length table.old.items) (bit ∷ []) }
+    requires { AllBelow (length table.old.items) (bit ∷ []) }
     ensures set { lits_of table.new.items ≡ with_lit (lits_of table.old.items) bit literal }
     ensures long { length table.new.items ≡ length table.old.items }
 {
@@ -102,7 +103,7 @@ pub(crate) fn set(table: &mut Vec<GateLit>, bit: Bit, literal: GateLit)
 
 /// Gives the nets of bits the literals of a row.
 pub(crate) fn lay(table: &mut Vec<GateLit>, bits: &[Bit], row: &[GateLit])
-    requires { AreBelow (length table.old.items) bits.now }
+    requires { AllBelow (length table.old.items) bits.now }
     ensures laid { lits_of table.new.items ≡ laid_lits (lits_of table.old.items) bits.now row.now }
     ensures long { length table.new.items ≡ length table.old.items }
 {

@@ -5,6 +5,8 @@ use Rattle.std.specs.List.{prefix_len}
 use Rattle.result_book.specs.declared.check.BookError.{BookError}
 use Rattle.result_book.specs.declared.check.BookError.TheVariants as b
 
+-- For proofs alone.
+
 abbrev pub is_of_name : ℕ → Bool
 is_of_name byte = not (byte == 10)
 

@@ -3,6 +3,8 @@ use Rattle.std.specs.Prelude.{ℕ, ◌==◌, ◌-◌, List, [], ◌∷◌, ◌++
 use Rattle.std.specs.List.{prefix_len, slice_split}
 use Rattle.project_lines.specs.Lines.{is_blank}
 
+-- For proofs alone.
+
 -- A byte as a terminal is shown it: a tab (9) and what is printable in ASCII as it is, another control character as a blank (32), and
 -- what is not ASCII as `?` (63).
 abbrev pub shown_byte : ℕ → ℕ

@@ -15,6 +15,14 @@ use Rattle.campaign_outcomes.specs.declared.outcome.Outcome.TheVariants as o
 use Rattle.outcome_hints.specs.declared.told.Spot.{Spot}
 use Rattle.outcome_hints.specs.declared.told.Spot.TheVariants.{Nowhere, Source, Line, Test}
 
+-- the command was not carried out
+abbrev pub IsRefused : Outcome → Type 0
+IsRefused o.Done = ⊥
+IsRefused (o.Unfinished left) = ⊥
+IsRefused outcome = ⊤
+
+-- For proofs alone.
+
 -- at this place, if there is one
 abbrev pub spot_of : Option Span → Spot
 spot_of None = Nowhere
@@ -56,9 +64,3 @@ script_spot (s.UnknownTest number) = Line number
 script_spot (s.UnknownTag number) = Line number
 script_spot (s.Unassigned number) = Line number
 script_spot s.Memory = Nowhere
-
--- the command was not carried out
-abbrev pub IsRefused : Outcome → Type 0
-IsRefused o.Done = ⊥
-IsRefused (o.Unfinished left) = ⊥
-IsRefused outcome = ⊤

@@ -1,13 +1,7 @@
 -- A mutant of a netlist within the limits of a design is accepted.
-use Rattle.std.proofs.Common.{◌≡◌, ◌+◌, List, refl, ap, ◌∙◌, arith}
-use Rattle.netlist_core.specs.declared.bit.Bit.{Bit}
+use Rattle.pair_gates.proofs.Common.{◌≡◌, ◌+◌, List, refl, ap, ◌∙◌, arith, Bit, RawNetlist, bits_at, q_bits, all_bits, free_bits, HasOneMore, MutantsAreAccepted, AcceptedWantMemory}
 use Rattle.netlist_core.specs.declared.port.Port as port
-use Rattle.netlist_core.specs.declared.raw.RawNetlist.{RawNetlist}
-use Rattle.netlist_core.specs.Runs.{bits_at, q_bits}
-use Rattle.netlist_core.specs.Checked.{all_bits, free_bits}
-use Rattle.mutation_sites.specs.Mutants.{HasOneMore}
 use Rattle.pair_gates.specs.declared.error.EncodeError.TheVariants.{PortsDiffer, RegistersDiffer, TooManyFree, TooManyGates, Memory}
-use Rattle.pair_gates.specs.Laws.{MutantsAreAccepted, AcceptedWantMemory}
 use Rattle.pair_gates.proofs.MutantsAlike.{mutants-are-alike, alike-are-not-apart}
 use Rattle.pair_gates.proofs.Weighing.{pair-few, mutant-light}
 

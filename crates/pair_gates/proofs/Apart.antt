@@ -1,11 +1,6 @@
 -- Whether one of the bits of two rows differs.
-use Rattle.std.proofs.Common.{◌≡◌, ◌⊎◌, inl, inr, Bool, true, false, not, List, [], ◌∷◌, length, refl, sym, ◌∙◌, arith, true≢false, if◌then◌else◌}
-use Rattle.clause_store.specs.Clauses.{Values}
-use Rattle.gate_list.specs.declared.literal.GateLit.{GateLit}
-use Rattle.gate_list.specs.Gates.{lit_value}
-use Rattle.gate_words.specs.declared.operation.Operation.TheVariants.{Xor}
-use Rattle.gate_words.specs.Bits.{lit_values, operation_value, both_bits}
-use Rattle.gate_clauses.specs.Encoding.{IsSome}
+use Rattle.pair_gates.proofs.Common.{◌≡◌, ◌⊎◌, inl, inr, Bool, true, false, not, List, [], ◌∷◌, length, refl, sym, ◌∙◌, arith, true≢false, if◌then◌else◌, Values, GateLit, lit_value, Xor, lit_values}
+use Rattle.pair_gates.proofs.Common.{operation_value, both_bits, IsSome}
 
 -- the bits that differ
 abbrev pub bits_apart : Values → List Bool → List Bool → List Bool

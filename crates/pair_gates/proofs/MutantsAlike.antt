@@ -1,11 +1,7 @@
 -- A mutant has its netlist's ports and registers.
-use Rattle.std.proofs.Common.{◌≡◌, ℕ, List, [], ◌∷◌, length, map, refl, sym, ap, inl, inr}
-use Rattle.std.specs.Prelude.{slice_get}
+use Rattle.pair_gates.proofs.Common.{◌≡◌, ℕ, List, [], ◌∷◌, length, map, refl, sym, ap, inl, inr, slice_get, Register, bits_at, q_bits, Named, ports_named, registers_named, IsFirstAlone, PortsDiffer}
+use Rattle.pair_gates.proofs.Common.{RegistersDiffer, MutantsAreAlike, AlikeAreNotApart}
 use Rattle.netlist_core.specs.declared.port.Port as port
-use Rattle.netlist_core.specs.declared.port.Register.{Register}
-use Rattle.netlist_core.specs.Runs.{bits_at, q_bits}
-use Rattle.pair_gates.specs.Matching.{Named, ports_named, registers_named, IsFirstAlone, PortsDiffer, RegistersDiffer}
-use Rattle.pair_gates.specs.Laws.{MutantsAreAlike, AlikeAreNotApart}
 
 -- ports of the same names and widths
 ports-alike : (ps qs : List port.Port) → map (λ (p : port.Port). p.name) qs ≡ map (λ (p : port.Port). p.name) ps → map length (bits_at qs) ≡ map length (bits_at ps) → ports_named ps ≡ ports_named qs

@@ -1,30 +1,13 @@
 -- What is made of a pair, step by step.
-use Rattle.std.proofs.Common.{◌≡◌, ◌↔◌, ℕ, ◌+◌, ◌<◌, ◌≤◌, List, [], length, refl, sym, ap, subst, ◌∙◌, arith, ℤ}
-use Rattle.std.specs.Prelude.{Result, Ok, Err, IsErrAnd, IfErr}
+use Rattle.pair_gates.proofs.Common.{◌≡◌, ◌↔◌, ℕ, ◌+◌, ◌<◌, ◌≤◌, List, [], length, refl, sym, ap, subst, ◌∙◌, arith, ℤ, Result, Ok, Err, IsErrAnd, IfErr, length-map, length-append, Values, IsModel}
+use Rattle.pair_gates.proofs.Common.{bits_at, q_bits, d_bits, Plan, IsSound, free_bits, all_bits, joined, GateLit, Gates, count, IsLit, AreOrdered, Hold, GatesHaveValues, Xor, MadeRow, row_of}
+use Rattle.pair_gates.proofs.Common.{grown-length, IsSome, Lits, bit_lit, bits_lits, AreWithin, MadeNets, netlist_made, made_as, bits-within, AreAlike, copies, step_bits, pair_row}
 use Rattle.std.specs.List.{All}
-use Rattle.std.proofs.lemmas.List.{length-map, length-append}
-use Rattle.clause_store.specs.Clauses.{Values, IsModel}
 use Rattle.cell_gates.specs.declared.error.GateError.{GateError}
 use Rattle.cell_gates.specs.declared.error.GateError.TheVariants as cause
-use Rattle.netlist_core.specs.Runs.{bits_at, q_bits, d_bits}
 use Rattle.netlist_core.specs.Drivers.{y_bits}
 use Rattle.netlist_core.specs.Solutions.{OrderSettles, OneAnswerBySight}
-use Rattle.netlist_core.specs.Checked.{Plan, IsSound, free_bits, all_bits}
-use Rattle.step_trials.specs.Inputs.{joined}
-use Rattle.gate_list.specs.declared.literal.GateLit.{GateLit}
-use Rattle.gate_list.specs.Gates.{Gates, count, IsLit, AreOrdered, Hold}
-use Rattle.gate_list.specs.Laws.{GatesHaveValues}
-use Rattle.gate_words.specs.declared.operation.Operation.TheVariants.{Xor}
-use Rattle.gate_words.specs.Rows.{MadeRow, row_of}
-use Rattle.gate_words.proofs.Growing.{grown-length}
-use Rattle.gate_clauses.specs.Encoding.{IsSome}
-use Rattle.netlist_gates.specs.NetLits.{Lits, bit_lit, bits_lits, AreWithin}
-use Rattle.netlist_gates.specs.Made.{MadeNets, netlist_made}
-use Rattle.netlist_gates.proofs.Solving.{made_as}
-use Rattle.netlist_gates.proofs.Within.{bits-within}
 use Rattle.pair_gates.specs.declared.error.EncodeError.{EncodeError}
-use Rattle.pair_gates.specs.Matching.{AreAlike}
-use Rattle.pair_gates.specs.Copies.{copies, step_bits, pair_row}
 use Rattle.pair_gates.specs.Refusals.{max_free, max_gates, of_gates, IsRefused}
 use Rattle.pair_gates.specs.Differences.{TellDifferences}
 use Rattle.pair_gates.proofs.Widths.{bits-same, next-widths}

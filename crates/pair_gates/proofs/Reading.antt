@@ -1,13 +1,6 @@
 -- Literals of ports, one port after the other.
-use Rattle.std.proofs.Common.{◌≡◌, ℕ, ◌+◌, ◌<◌, List, ◌∷◌, ◌++◌, length, drop, get_or, sym, ap, ◌∙◌}
-use Rattle.std.proofs.lemmas.List.{drop_more, map-append, append_assoc}
-use Rattle.netlist_core.specs.declared.bit.Bit.{Bit}
-use Rattle.netlist_core.specs.declared.port.Port.{Port}
-use Rattle.netlist_core.specs.declared.port.Register.{Register}
-use Rattle.netlist_core.specs.Runs.{bits_at, d_bits}
-use Rattle.step_trials.specs.Inputs.{joined}
-use Rattle.gate_list.specs.declared.literal.GateLit.{GateLit}
-use Rattle.netlist_gates.specs.NetLits.{Lits, bit_lit, bits_lits}
+use Rattle.pair_gates.proofs.Common.{◌≡◌, ℕ, ◌+◌, ◌<◌, List, ◌∷◌, ◌++◌, length, drop, get_or, sym, ap, ◌∙◌, drop_more, map-append, append_assoc, Bit, Port, Register, bits_at, d_bits, joined, GateLit}
+use Rattle.pair_gates.proofs.Common.{Lits, bit_lit, bits_lits}
 
 -- what was read, and what is left to read
 abbrev pub ahead : Lits → List GateLit → List (List Bit) → List GateLit

@@ -1,14 +1,7 @@
 -- What stands at its place in another list.
-use Rattle.std.proofs.Common.{◌≡◌, ℕ, suc, List, [], ◌∷◌, Option, Some, None, refl, sym, subst, inl, inr, arith}
-use Rattle.std.proofs.lemmas.Option.{same_Some}
-use Rattle.std.specs.Prelude.{MatchOption}
-use Rattle.netlist_core.specs.declared.port.Port.{Port}
-use Rattle.netlist_core.specs.declared.port.Register.{Register}
-use Rattle.netlist_core.specs.declared.raw.RawNetlist.{RawNetlist}
-use Rattle.pair_gates.specs.Matching.{Named, AllStand, IsFirstAlone, ports_named, registers_named, PortsDiffer, RegistersDiffer, HaveSamePorts, HaveSameRegisters}
-
-none-some : {X : Type 0} (x : X) → None ≡ Some x → ⊥
-none-some x e = cc
+use Rattle.pair_gates.proofs.Common.{◌≡◌, ℕ, suc, List, [], ◌∷◌, Option, Some, None, refl, sym, subst, inl, inr, arith, MatchOption, Port, Register, RawNetlist, Named, AllStand, IsFirstAlone}
+use Rattle.pair_gates.proofs.Common.{ports_named, registers_named, PortsDiffer, RegistersDiffer, HaveSamePorts, HaveSameRegisters}
+use Rattle.std.proofs.lemmas.Option.{same_Some, none-some}
 
 -- lists in which each item stands in the other are the same
 pub stand-same : (xs ys : List Named) → AllStand xs ys → AllStand ys xs → xs ≡ ys

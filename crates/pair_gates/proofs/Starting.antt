@@ -1,18 +1,7 @@
 -- Values of the free bits from those of nets.
-use Rattle.std.proofs.Common.{◌≡◌, ℕ, zero, suc, ◌+◌, ◌-◌, ◌≤◌, Bool, false, List, [], ◌∷◌, ◌++◌, length, get_or, refl, sym, ap, subst, ◌∙◌, arith}
-use Rattle.std.proofs.lemmas.List.{append_assoc, length-append, map-append}
+use Rattle.pair_gates.proofs.Common.{◌≡◌, ℕ, zero, suc, ◌+◌, ◌-◌, ◌≤◌, Bool, false, List, [], ◌∷◌, ◌++◌, length, get_or, refl, sym, ap, subst, ◌∙◌, arith, append_assoc, length-append, map-append}
+use Rattle.pair_gates.proofs.Common.{Values, Bit, number, Nets, bit_value, values, port_numbers, all_bits, length-values, joined, AgreeUpTo, lit_values, variables, free_numbers}
 use Rattle.std.proofs.Math.Seq.{get_or-append_seam}
-use Rattle.clause_store.specs.Clauses.{Values}
-use Rattle.netlist_core.specs.declared.bit.Bit.{Bit}
-use Rattle.netlist_core.specs.Numbers.{number}
-use Rattle.netlist_core.specs.Runs.{Nets, bit_value, values, port_numbers}
-use Rattle.netlist_core.specs.Checked.{all_bits}
-use Rattle.netlist_core.proofs.Settles.{length-values}
-use Rattle.step_trials.specs.Inputs.{joined}
-use Rattle.gate_list.specs.Laws.{AgreeUpTo}
-use Rattle.gate_words.specs.Bits.{lit_values}
-use Rattle.netlist_gates.specs.NetLits.{variables}
-use Rattle.netlist_gates.specs.Meanings.{free_numbers}
 
 -- variable 1 has the first value, and so on
 abbrev pub start_values : List Bool → Values

@@ -1,17 +1,6 @@
 -- Two steps are alike exactly where the bits that they show are the same.
-use Rattle.std.proofs.Common.{◌≡◌, ℕ, ◌+◌, Bool, List, [], ◌∷◌, ◌++◌, length, map, refl, sym, ap, ◌∙◌, arith}
-use Rattle.std.proofs.lemmas.List.{map-append, length-append}
-use Rattle.netlist_core.specs.declared.bit.Bit.{Bit}
-use Rattle.netlist_core.specs.declared.port.Register.{Register}
-use Rattle.netlist_core.specs.declared.raw.RawNetlist.{RawNetlist}
-use Rattle.netlist_core.specs.Numbers.{number}
-use Rattle.netlist_core.specs.Runs.{Nets, bit_value, values, bits_at, d_bits, plain, port_numbers, taken}
-use Rattle.netlist_core.specs.Checked.{IsFormed, all_bits}
-use Rattle.netlist_core.proofs.Settles.{number-injective, length-values}
-use Rattle.step_trials.specs.Equal.{design, StepsAlike}
-use Rattle.step_trials.specs.Inputs.{joined}
-use Rattle.pair_gates.specs.Matching.{AreAlike}
-use Rattle.pair_gates.specs.Copies.{step_bits}
+use Rattle.pair_gates.proofs.Common.{◌≡◌, ℕ, ◌+◌, Bool, List, [], ◌∷◌, ◌++◌, length, map, refl, sym, ap, ◌∙◌, arith, map-append, length-append, Bit, Register, RawNetlist, number, Nets, bit_value}
+use Rattle.pair_gates.proofs.Common.{values, bits_at, d_bits, plain, port_numbers, taken, IsFormed, all_bits, number-injective, length-values, design, StepsAlike, joined, AreAlike, step_bits}
 use Rattle.pair_gates.proofs.Widths.{AreSameWide, ports-same, next-same, bits-same}
 
 taken-numbers : (nets : Nets) (k : ℕ) (registers : List Register) → taken (plain nets) k registers ≡ port_numbers nets (d_bits registers)

@@ -1,31 +1,11 @@
 -- The clauses of a pair have a model exactly where a step of the two differs.
-use Rattle.std.proofs.Common.{◌≡◌, ◌↔◌, ◌⊎◌, ℕ, ◌≤◌, Bool, List, [], ◌++◌, length, refl, sym, ap, subst, ◌∙◌, inl, inr, arith, ℤ}
-use Rattle.std.proofs.lemmas.List.{length-map, append-nil}
-use Rattle.clause_store.specs.Clauses.{Values, IsModel}
-use Rattle.netlist_core.specs.declared.bit.Bit.{Bit}
-use Rattle.netlist_core.specs.declared.raw.RawNetlist.{RawNetlist}
-use Rattle.netlist_core.specs.Runs.{Nets, values as bit_values, bits_at, q_bits, plain, Holds, shown, taken}
-use Rattle.netlist_core.specs.Checked.{Plan, IsSound, free_bits, all_bits}
+use Rattle.pair_gates.proofs.Common.{◌≡◌, ◌↔◌, ◌⊎◌, ℕ, ◌≤◌, Bool, List, [], ◌++◌, length, refl, sym, ap, subst, ◌∙◌, inl, inr, arith, ℤ, length-map, append-nil, Values, IsModel, Bit, RawNetlist, Nets}
+use Rattle.pair_gates.proofs.Common.{bit_values, bits_at, q_bits, plain, Holds, shown, taken, Plan, IsSound, free_bits, all_bits, plain-causal, length-values, design, StepsAlike, joined, GateLit}
+use Rattle.pair_gates.proofs.Common.{Gates, AreOrdered, Hold, AgreeUpTo, GatesHaveValues, Xor, lit_values, Grows, AddsBits, hold-before, IsSome, bit_lit, bits_lits, nets_of, MadeNets, first_input}
+use Rattle.pair_gates.proofs.Common.{first_register, netlist_made, weight_of, input_numbers, register_numbers, within-later, bits-within, netlist-leads, netlist-solves, AreAlike, step_bits, pair_row}
 use Rattle.netlist_core.specs.Solutions.{OrderSettles, OneAnswerBySight}
-use Rattle.netlist_core.proofs.Settles.{plain-causal, length-values}
-use Rattle.step_trials.specs.Equal.{design, StepsAlike}
-use Rattle.step_trials.specs.Inputs.{joined}
-use Rattle.gate_list.specs.declared.literal.GateLit.{GateLit}
-use Rattle.gate_list.specs.Gates.{Gates, AreOrdered, Hold}
-use Rattle.gate_list.specs.Laws.{AgreeUpTo, GatesHaveValues}
-use Rattle.gate_words.specs.declared.operation.Operation.TheVariants.{Xor}
-use Rattle.gate_words.specs.Bits.{lit_values, Grows, AddsBits}
-use Rattle.gate_words.proofs.Growing.{hold-before}
 use Rattle.gate_words.proofs.RowLemmas.{RowIs, row-adds}
-use Rattle.gate_clauses.specs.Encoding.{IsSome}
-use Rattle.netlist_gates.specs.NetLits.{bit_lit, bits_lits, nets_of}
-use Rattle.netlist_gates.specs.Made.{MadeNets, first_input, first_register, netlist_made, weight_of}
-use Rattle.netlist_gates.specs.Meanings.{input_numbers, register_numbers}
 use Rattle.netlist_gates.proofs.Laying.{bits-worth}
-use Rattle.netlist_gates.proofs.Within.{within-later, bits-within}
-use Rattle.netlist_gates.proofs.Solving.{netlist-leads, netlist-solves}
-use Rattle.pair_gates.specs.Matching.{AreAlike}
-use Rattle.pair_gates.specs.Copies.{step_bits, pair_row}
 use Rattle.pair_gates.specs.Differences.{Differ, HasModel, TellDifferences}
 use Rattle.pair_gates.proofs.Widths.{free-bits-same, inputs-numbered, registers-numbered}
 use Rattle.pair_gates.proofs.Stepping.{joined-long, step-long, alike-bits, bits-alike}

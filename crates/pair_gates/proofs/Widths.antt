@@ -1,17 +1,6 @@
 -- Netlists with the same ports and registers have the same widths.
-use Rattle.std.proofs.Common.{◌≡◌, ℕ, ◌+◌, List, [], ◌∷◌, length, map, refl, sym, ap, ◌∙◌, arith}
-use Rattle.clause_store.specs.Clauses.{Values}
-use Rattle.netlist_core.specs.declared.bit.Bit.{Bit}
-use Rattle.netlist_core.specs.declared.port.Port.{Port}
-use Rattle.netlist_core.specs.declared.port.Register.{Register}
-use Rattle.netlist_core.specs.declared.raw.RawNetlist.{RawNetlist}
-use Rattle.netlist_core.specs.Numbers.{number}
-use Rattle.netlist_core.specs.Runs.{bits_at, q_bits, d_bits}
-use Rattle.netlist_core.specs.Checked.{all_bits, free_bits, AllRegistersFit}
-use Rattle.gate_words.specs.Bits.{lit_values}
-use Rattle.netlist_gates.specs.NetLits.{variables}
-use Rattle.netlist_gates.specs.Meanings.{free_numbers, input_numbers, register_numbers}
-use Rattle.pair_gates.specs.Matching.{Named, ports_named, registers_named, AreAlike}
+use Rattle.pair_gates.proofs.Common.{◌≡◌, ℕ, ◌+◌, List, [], ◌∷◌, length, map, refl, sym, ap, ◌∙◌, arith, Values, Bit, Port, Register, RawNetlist, number, bits_at, q_bits, d_bits, all_bits, free_bits}
+use Rattle.pair_gates.proofs.Common.{AllRegistersFit, lit_values, variables, free_numbers, input_numbers, register_numbers, Named, ports_named, registers_named, AreAlike}
 
 -- as many bits in each port
 abbrev pub AreSameWide : List (List Bit) → List (List Bit) → Type 0

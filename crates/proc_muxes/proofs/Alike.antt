@@ -1,21 +1,9 @@
 -- What statements lay goes by the builder, and by the bits that wait for those variables alone to which they have nonblocking
 -- assignments.
-use Rattle.std.proofs.Common.{◌≡◌, ℕ, Bool, true, false, ◌&&◌, ◌||◌, List, [], ◌∷◌, ◌++◌, take, drop, length, nat_eq, Option, Some, None, refl, sym, ◌∙◌, ap, subst}
-use Rattle.std.specs.Prelude.{if◌then◌else◌}
-use Rattle.mcy_base.specs.declared.span.Span.{Span}
-use Rattle.netlist_core.specs.declared.bit.Bit.{Bit}
-use Rattle.netlist_core.specs.declared.cell.CellKind.TheVariants.{Mux, Put}
-use Rattle.vlog_meaning.specs.Scopes.{Names, nothing}
-use Rattle.vlog_effects.specs.Effects.{bit_same}
-use Rattle.vlog_effects.specs.LeftSides.{Select, Part, Vector, part_vector, parts_of, parts_width, places, written}
-use Rattle.vlog_effects.specs.Latches.{Target, targets, arms_targets, part_targets, parts_targets}
-use Rattle.vlog_effects.specs.Steps.{Assigning, Selection, Steps, Done, Assign, Choose, Case, Refuse, Arms, Otherwise, Arm}
-use Rattle.net_builder.specs.Building.{Building, signal, with_signal}
-use Rattle.elab_expr.specs.Laid.{Laid, cell, lay}
-use Rattle.proc_muxes.specs.declared.choice.Choice.{Choice}
-use Rattle.proc_muxes.specs.Builds.{Work, held, with_held, Index, variable_index, distinct_after, distinct, choices, stands, restored, case_shape}
-use Rattle.proc_muxes.proofs.Frames.{number-true}
-use Rattle.proc_muxes.specs.Laws.{WaitAlike, LaidByWhatWaits}
+use Rattle.proc_muxes.proofs.Common.{◌≡◌, ℕ, Bool, true, false, ◌&&◌, ◌||◌, List, [], ◌∷◌, ◌++◌, take, drop, length, nat_eq, Option, Some, None, refl, sym, ◌∙◌, ap, subst, if◌then◌else◌, Span, Bit}
+use Rattle.proc_muxes.proofs.Common.{Mux, Put, Names, nothing, bit_same, Select, Part, Vector, part_vector, parts_of, parts_width, places, written, Target, targets, arms_targets, part_targets}
+use Rattle.proc_muxes.proofs.Common.{parts_targets, Assigning, Selection, Steps, Done, Assign, Choose, Case, Refuse, Arms, Otherwise, Arm, Building, signal, with_signal, Laid, cell, lay, Choice, Work}
+use Rattle.proc_muxes.proofs.Common.{held, with_held, Index, variable_index, distinct_after, distinct, choices, stands, restored, case_shape, WaitAlike, LaidByWhatWaits, exact_unsigned_eq}
 use Rattle.proc_muxes.proofs.Laying.{both}
 use Rattle.proc_muxes.specs.Laid.{with_cells, showing_in, LaidIndices, lay_indices, lay_put, lay_part, lay_parts, lay_left, lay_right, lay_assign, lay_test, lay_muxes, lay_match, lay_steps, lay_items}
 
@@ -55,7 +43,7 @@ module _ (D : ℕ → Type 0) where
     go : (kind is : Bool) → x.is_blocking ≡ kind → nat_eq x.number n ≡ is → (stands false xs n ≡ true → D n) → D n
     go kind false f g later = later (sym (ap (λ (b : Bool). (b && bit_same false x.is_blocking) || stands false xs n) g) ∙ e)
     go true true f g later = later (sym (λ j. (g j && bit_same false (f j)) || stands false xs n) ∙ e)
-    go false true f g later = subst D (number-true x.number n g) (w.0 f)
+    go false true f g later = subst D (exact_unsigned_eq x.number n g) (w.0 f)
 
   -- What a variable has.
 

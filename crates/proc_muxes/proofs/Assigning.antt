@@ -1,35 +1,12 @@
 -- The pieces of a left side are written from the last one on, and what an assignment has changed.
-use Rattle.std.proofs.Common.{◌≡◌, ℕ, suc, ◌+◌, ◌-◌, ◌<◌, ◌≤◌, max, ℤ, Bool, List, [], ◌∷◌, ◌++◌, take, drop, length, get_or, Option, Some, None, refl, sym, ◌∙◌, ap, subst, arith, append-nil}
-use Rattle.std.proofs.Math.Seq.{take-length}
-use Rattle.std.proofs.lemmas.List.{length-take-le, length-drop}
-use Rattle.mcy_base.specs.declared.span.Span.{Span}
-use Rattle.netlist_core.specs.declared.bit.Bit.{Bit}
-use Rattle.netlist_core.specs.declared.cell.CellKind.TheVariants.{Put}
-use Rattle.vlog_syntax.specs.declared.expr.Expr.{Expr}
+use Rattle.proc_muxes.proofs.Common.{◌≡◌, ℕ, suc, ◌+◌, ◌-◌, ◌<◌, ◌≤◌, max, ℤ, Bool, List, [], ◌∷◌, ◌++◌, take, drop, length, get_or, Option, Some, None, refl, sym, ◌∙◌, ap, subst, arith, append-nil}
+use Rattle.proc_muxes.proofs.Common.{take-length, length-take-le, length-drop, Span, Bit, Put, Expr, bound_integer, Names, nothing, sense, assigned, Part, Vector, part_vector, part_width, width_by}
+use Rattle.proc_muxes.proofs.Common.{parts_of, parts_width, select_base, bits_from, written, Assigning, Done, Assign, Target, part_targets, parts_targets, Building, Grows, AllBelow, Evaluates, made}
+use Rattle.proc_muxes.proofs.Common.{IsShort, ElabError, count, more_short, below_later, grown_nets, grows_again, Change, Piece, Place, From, At, Work, held, with_held, IsLaid, Index, variable_index}
+use Rattle.proc_muxes.proofs.Common.{PutsPart, PutsParts, BuildsIndices, distinct, AreHeld, put_cells, puts_cells, place_cells, pieces_cells, assign_cells, vector_at, IsPlace, indices_of, IsPiece}
+use Rattle.proc_muxes.proofs.Common.{ArePieces, IsHeldPiece, AreHeldPieces, sizes, piece_target, piece_targets, MakesPieces, Keeps, PutsAt, change_of, changes_of, joined, Built}
 use Rattle.vlog_meaning.specs.declared.bound.Bound.{Bound}
-use Rattle.vlog_meaning.specs.Integers.{bound_integer}
-use Rattle.vlog_meaning.specs.Scopes.{Names, nothing}
-use Rattle.vlog_meaning.specs.Senses.{sense, assigned}
-use Rattle.vlog_effects.specs.LeftSides.{Part, Vector, part_vector, part_width, width_by, parts_of, parts_width, select_base, bits_from, written}
-use Rattle.vlog_effects.specs.Steps.{Assigning, Done, Assign}
-use Rattle.vlog_effects.specs.Latches.{Target, part_targets, parts_targets}
-use Rattle.net_builder.specs.Building.{Building, Grows, AllBelow}
-use Rattle.elab_expr.specs.Evaluates.{Evaluates}
-use Rattle.expr_plans.specs.Made.{made}
-use Rattle.net_builder.specs.Refusals.{IsShort}
-use Rattle.net_builder.specs.declared.error.ElabError.{ElabError}
-use Rattle.elab_expr.proofs.Growing.{count, more_short}
-use Rattle.net_builder.proofs.Parts.{below_later, grown_nets, grows_again}
-use Rattle.proc_muxes.specs.declared.change.Change.{Change}
-use Rattle.proc_muxes.specs.declared.piece.Piece.{Piece}
-use Rattle.proc_muxes.specs.declared.piece.Place.{Place}
-use Rattle.proc_muxes.specs.declared.piece.Place.TheVariants.{From, At}
-use Rattle.proc_muxes.specs.Builds.{Work, held, with_held, IsLaid, Index, variable_index, PutsPart, PutsParts, BuildsIndices, distinct}
-use Rattle.proc_muxes.specs.Clear.{AreHeld}
-use Rattle.proc_muxes.specs.Counts.{put_cells, puts_cells, place_cells, pieces_cells, assign_cells}
-use Rattle.proc_muxes.specs.Pieces.{vector_at, IsPlace, index_bits, indices_of, IsPiece, ArePieces, IsHeldPiece, AreHeldPieces, sizes, piece_target, piece_targets, MakesPieces}
-use Rattle.proc_muxes.specs.Shows.{Keeps}
-use Rattle.proc_muxes.specs.Working.{PutsAt, change_of, changes_of, joined, Built}
+use Rattle.proc_muxes.specs.Pieces.{index_bits}
 use Rattle.proc_muxes.proofs.Bits.{length-written, below-written, below-take, below-drop}
 use Rattle.proc_muxes.proofs.Frames.{keeps-grown, keeps-again, keeps-turned, keeps-widths, keeps-held, stands-held, held-grown}
 use Rattle.proc_muxes.proofs.Keeping.{keeps-cell, grows-indices}

@@ -1,15 +1,6 @@
 -- Bits, their numbers, and writes of bits.
-use Rattle.std.proofs.Common.{◌≡◌, ℕ, zero, suc, ◌+◌, ◌*◌, ◌/◌, ◌%◌, Bool, true, false, List, [], ◌∷◌, take, drop, length, Option, Some, None, set, refl, sym, ◌∙◌, ap, arith}
-use Rattle.std.specs.Prelude.{◌==◌}
-use Rattle.std.proofs.lemmas.List.{map-set, length-map, length-set}
-use Rattle.std.proofs.lemmas.Bool.{eq-eqb}
-use Rattle.netlist_core.specs.declared.bit.Bit.{Bit}
-use Rattle.netlist_core.specs.declared.bit.Bit.TheVariants.{Fixed, Net}
-use Rattle.netlist_core.specs.Numbers.{digit, number}
-use Rattle.netlist_core.specs.Runs.{Nets, bit_value, values}
-use Rattle.vlog_effects.specs.Expressions.{bits_of, number as value_of}
-use Rattle.vlog_effects.specs.LeftSides.{written}
-use Rattle.net_builder.specs.Building.{AllBelow}
+use Rattle.proc_muxes.proofs.Common.{◌≡◌, ℕ, zero, suc, ◌+◌, ◌*◌, ◌/◌, ◌%◌, Bool, true, false, List, [], ◌∷◌, take, drop, length, Option, Some, None, set, refl, sym, ◌∙◌, ap, arith, ◌==◌, map-set}
+use Rattle.proc_muxes.proofs.Common.{length-map, length-set, eq-eqb, Bit, Fixed, Net, digit, number, Nets, bit_value, values, bits_of, value_of, written, AllBelow}
 
 -- both count a list of bits alike
 pub number-same : (bs : List Bool) → value_of bs ≡ number bs
@@ -40,10 +31,6 @@ values-are nets bits w v long e =
 pub take-bits_of : (w more v : ℕ) → take w (bits_of (w + more) v) ≡ bits_of w v
 take-bits_of zero more v = refl
 take-bits_of (suc w) more v = let e : suc w + more ≡ suc (w + more) = omega arith in rw e (ap (λ (t : List Bool). (v % 2 == 1) ∷ t) (take-bits_of w more (v / 2)))
-
-pub length-bits_of : (w v : ℕ) → length (bits_of w v) ≡ w
-length-bits_of zero v = refl
-length-bits_of (suc w) v = ap suc (length-bits_of w (v / 2))
 
 -- values of written bits are written values
 pub values-written : (nets : Nets) (old : List Bit) (ps : List (Option ℕ)) (bits : List Bit) → values nets (written old ps bits) ≡ written (values nets old) ps (values nets bits)

@@ -1,28 +1,7 @@
 -- What the code of blocks and of `if` has from one call to the next.
-use Rattle.std.proofs.Common.{◌≡◌, ℕ, ◌+◌, List, [], map, length, Option, Some, sym, ◌∙◌, ap, subst, arith}
-use Rattle.std.specs.Option.{option_map}
-use Rattle.mcy_base.specs.declared.span.Span.{Span}
-use Rattle.netlist_core.specs.declared.bit.Bit.{Bit}
-use Rattle.vlog_syntax.specs.declared.expr.Expr.{Expr}
-use Rattle.vlog_syntax.specs.declared.identifier.Identifier.{Identifier}
-use Rattle.vlog_syntax.specs.declared.stmt.Stmt.{Stmt}
-use Rattle.vlog_syntax.specs.declared.stmt.Stmt.TheVariants.{SeqBlock, Conditional}
-use Rattle.vlog_meaning.specs.Scopes.{Names}
-use Rattle.vlog_meaning.specs.Senses.{sense}
-use Rattle.vlog_effects.specs.Steps.{Test, Steps, Done, Choose, in_turn, steps_of, else_steps}
-use Rattle.vlog_effects.specs.Latches.{targets}
-use Rattle.net_builder.specs.Building.{AllBelow}
-use Rattle.elab_expr.specs.Expressions.{refusals}
-use Rattle.net_builder.specs.Refusals.{IsShort}
-use Rattle.net_builder.specs.declared.error.ElabError.{ElabError}
-use Rattle.elab_expr.proofs.Growing.{more_short}
-use Rattle.proc_muxes.specs.declared.change.Change.{Change}
-use Rattle.proc_muxes.specs.declared.choice.Choice.{Choice}
-use Rattle.proc_muxes.specs.Builds.{Work, BuildsTest, ChoosesAll}
-use Rattle.proc_muxes.specs.Clear.{IsReady}
-use Rattle.proc_muxes.specs.Counts.{cells_of}
-use Rattle.proc_muxes.specs.Shows.{StandsBelow}
-use Rattle.proc_muxes.specs.Working.{AllFit, AllChoicesFit, joined, all_have, given_back, chosen, Built, test_cells}
+use Rattle.proc_muxes.proofs.Common.{◌≡◌, ℕ, ◌+◌, List, [], map, length, Option, Some, sym, ◌∙◌, ap, subst, arith, option_map, Span, Bit, Expr, Identifier, Stmt, SeqBlock, Conditional, Names, sense}
+use Rattle.proc_muxes.proofs.Common.{Test, Steps, Done, Choose, in_turn, steps_of, else_steps, targets, AllBelow, refusals, IsShort, ElabError, more_short, Change, Choice, Work, BuildsTest}
+use Rattle.proc_muxes.proofs.Common.{ChoosesAll, IsReady, cells_of, StandsBelow, AllFit, AllChoicesFit, joined, all_have, given_back, chosen, Built, test_cells}
 use Rattle.proc_muxes.proofs.Counting.{builds-counted, test-counted}
 use Rattle.proc_muxes.proofs.Keeping.{keeps-test}
 use Rattle.proc_muxes.proofs.Merging.{built-choice}

@@ -1,8 +1,5 @@
 -- Lists of changes.
-use Rattle.std.proofs.Common.{◌≡◌, Bool, true, false, List, [], ◌∷◌, ◌++◌, refl}
-use Rattle.std.specs.Prelude.{if◌then◌else◌}
-use Rattle.proc_muxes.specs.declared.change.Change.{Change}
-use Rattle.proc_muxes.specs.Working.{is_changed, joined}
+use Rattle.proc_muxes.proofs.Common.{◌≡◌, Bool, true, false, List, [], ◌∷◌, ◌++◌, refl, if◌then◌else◌, Change, is_changed, joined}
 
 -- one later change more
 pub joined-push : (cs ds : List Change) (d : Change) → joined cs (ds ++ d ∷ []) ≡ (if is_changed d.is_blocking (joined cs ds) d.number then joined cs ds else joined cs ds ++ d ∷ [])

@@ -1,44 +1,12 @@
 -- The muxes of the arms of a case, from the last arm back.
-use Rattle.std.proofs.Common.{◌≡◌, ℕ, ◌+◌, ◌≤◌, false, List, [], ◌∷◌, ◌++◌, map, take, length, refl, sym, ◌∙◌, ap, subst, append-nil, arith}
-use Rattle.std.specs.List.{flat_map}
-use Rattle.mcy_base.specs.declared.span.Span.{Span}
-use Rattle.netlist_core.specs.declared.bit.Bit.{Bit}
-use Rattle.vlog_syntax.specs.declared.expr.Expr.{Expr}
-use Rattle.vlog_syntax.specs.declared.stmt.CaseItem.{CaseItem}
-use Rattle.vlog_syntax.specs.declared.stmt.CaseKind.{CaseKind}
-use Rattle.vlog_syntax.specs.declared.stmt.Stmt.{Stmt}
-use Rattle.vlog_syntax.specs.declared.stmt.Stmt.TheVariants.{Case as CaseOf}
-use Rattle.vlog_meaning.specs.declared.shapes.Shape.{Shape}
+use Rattle.proc_muxes.proofs.Common.{◌≡◌, ℕ, ◌+◌, ◌≤◌, false, List, [], ◌∷◌, ◌++◌, map, take, length, refl, sym, ◌∙◌, ap, subst, append-nil, arith, flat_map, Span, Bit, Expr, CaseItem, CaseKind, Stmt}
+use Rattle.proc_muxes.proofs.Common.{CaseOf, Shape, Names, sense, IsContext, these_nil, item_steps, Target, targets, arms_targets, Steps, Selection, Item, Arms, Otherwise, Arm, labelled, default_of}
+use Rattle.proc_muxes.proofs.Common.{chosen_arms, selection_of, case_steps, steps_of, steps-case, Building, AllBelow, Evaluates, refusals, made, IsShort, ElabError, count, more_short, wrong}
+use Rattle.proc_muxes.proofs.Common.{case_faults, common_size, labels_in, LabelsWithin, labels_same, arms_with, IsOf, Change, Choice, OpenArm, Work, IsLaid, restored, distinct, choices, ChoosesAll}
+use Rattle.proc_muxes.proofs.Common.{case_shape, BuildsArms, AreReadyItems, Opens, Opened, AreClear, AreHeld, IsReady, cells_of, arms_cells, items_cells, Keeps, StandsBelow, changes_of, joined}
+use Rattle.proc_muxes.proofs.Common.{AllChoicesFit, AreWide, chosen, Built}
 use Rattle.vlog_meaning.specs.Operators.{IsSized}
-use Rattle.vlog_meaning.specs.Scopes.{Names}
-use Rattle.vlog_meaning.specs.Senses.{sense, IsContext}
-use Rattle.vlog_meaning.proofs.Blanks.{these_nil}
-use Rattle.vlog_effects.specs.Laws.{item_steps}
-use Rattle.vlog_effects.specs.Latches.{Target, targets, arms_targets}
-use Rattle.vlog_effects.specs.Steps.{Steps, Selection, Item, Arms, Otherwise, Arm, labelled, default_of, chosen_arms, selection_of, case_steps, steps_of}
-use Rattle.vlog_effects.proofs.Variants.{steps-case}
-use Rattle.net_builder.specs.Building.{Building, AllBelow}
-use Rattle.elab_expr.specs.Evaluates.{Evaluates}
-use Rattle.elab_expr.specs.Expressions.{refusals}
-use Rattle.expr_plans.specs.Made.{made}
-use Rattle.net_builder.specs.Refusals.{IsShort}
-use Rattle.net_builder.specs.declared.error.ElabError.{ElabError}
-use Rattle.elab_expr.proofs.Growing.{count, more_short}
-use Rattle.elab_proc.specs.Refusals.{wrong, case_faults, common_size, labels_in}
-use Rattle.elab_proc.specs.Sizes.{LabelsWithin}
 use Rattle.elab_proc.proofs.CaseLemmas.{common_within, labels_within}
-use Rattle.elab_proc.proofs.StepLemmas.{labels_same}
-use Rattle.case_arms.specs.Arms.{arms_with}
-use Rattle.case_arms.specs.Naming.{IsOf}
-use Rattle.proc_muxes.specs.declared.change.Change.{Change}
-use Rattle.proc_muxes.specs.declared.choice.Choice.{Choice}
-use Rattle.proc_muxes.specs.declared.open_arms.OpenArm.{OpenArm}
-use Rattle.proc_muxes.specs.Builds.{Work, IsLaid, restored, distinct, choices, ChoosesAll, case_shape, BuildsArms}
-use Rattle.proc_muxes.specs.Cases.{AreReadyItems, Opens, Opened}
-use Rattle.proc_muxes.specs.Clear.{AreClear, AreHeld, IsReady}
-use Rattle.proc_muxes.specs.Counts.{cells_of, arms_cells, items_cells}
-use Rattle.proc_muxes.specs.Shows.{Keeps, StandsBelow}
-use Rattle.proc_muxes.specs.Working.{changes_of, joined, AllChoicesFit, AreWide, chosen, Built}
 use Rattle.proc_muxes.proofs.Counting.{arms-counted}
 use Rattle.proc_muxes.proofs.Fitting.{Leaves, back-is, both-keep, chosen-are, joined-are, parts-fit, parts-counted, later-below, leaves-restored}
 use Rattle.proc_muxes.proofs.Frames.{keeps-grown, keeps-again}

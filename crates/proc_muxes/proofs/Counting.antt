@@ -1,26 +1,10 @@
 -- How many cells are there after statements.
-use Rattle.std.proofs.Common.{◌≡◌, ℕ, zero, suc, ◌+◌, Bool, true, false, List, [], ◌∷◌, ◌++◌, length, Option, Some, None, nat_lt, refl, ◌∙◌, ap, inl, inr, arith}
-use Rattle.std.specs.Prelude.{if◌then◌else◌}
-use Rattle.std.proofs.lemmas.List.{length-append}
-use Rattle.std.proofs.lemmas.Bool.Decides.{leb_tells}
-use Rattle.mcy_base.specs.declared.span.Span.{Span}
-use Rattle.netlist_core.specs.declared.bit.Bit.{Bit}
-use Rattle.netlist_core.specs.declared.cell.CellKind.{CellKind}
-use Rattle.netlist_core.specs.declared.cell.CellKind.TheVariants.{Put, Ror, Mux, Eq, Lor}
-use Rattle.vlog_syntax.specs.Places.{first_token}
-use Rattle.vlog_syntax.specs.declared.expr.Expr.{Expr}
-use Rattle.vlog_meaning.specs.Scopes.{Names}
-use Rattle.vlog_meaning.specs.Senses.{sense, assigned}
-use Rattle.vlog_effects.specs.Expressions.{bits_of}
-use Rattle.vlog_effects.specs.LeftSides.{Part, Vector, parts_of, part_vector, parts_width}
-use Rattle.vlog_effects.specs.Steps.{Assigning, Test, Selection, Steps, Done, Assign, Choose, Case, Refuse, Arms, Otherwise, Arm, dont_care}
-use Rattle.vlog_effects.specs.Latches.{Target, targets, arms_targets}
-use Rattle.net_builder.specs.Building.{Building, fresh_bits}
-use Rattle.expr_plans.specs.Made.{made}
-use Rattle.elab_expr.proofs.Growing.{count}
-use Rattle.proc_muxes.specs.Builds.{Work, held, with_held, AddsCell, Index, variable_index, PutsBits, PutsPart, PutsParts, BuildsAssign, BuildsBit, BuildsTest, distinct, choices, ChoosesAll, restored, kept, mattering, case_shape, BuildsEqual, BuildsLabel, BuildsMore, BuildsMatch, Builds, BuildsArms}
-use Rattle.proc_muxes.specs.Counts.{put_cells, puts_cells, assign_cells, equal_cells, label_cells, labels_cells, match_cells, cells_of, arms_cells}
-use Rattle.proc_muxes.specs.Working.{test_cells}
+use Rattle.proc_muxes.proofs.Common.{◌≡◌, ℕ, zero, suc, ◌+◌, Bool, true, false, List, [], ◌∷◌, ◌++◌, length, Option, Some, None, nat_lt, refl, ◌∙◌, ap, inl, inr, arith, if◌then◌else◌, length-append}
+use Rattle.proc_muxes.proofs.Common.{leb_tells, Span, Bit, CellKind, Put, Ror, Mux, Eq, Lor, first_token, Expr, Names, sense, assigned, bits_of, Part, Vector, parts_of, part_vector, parts_width}
+use Rattle.proc_muxes.proofs.Common.{Assigning, Test, Selection, Steps, Done, Assign, Choose, Case, Refuse, Arms, Otherwise, Arm, dont_care, Target, targets, arms_targets, Building, fresh_bits, made}
+use Rattle.proc_muxes.proofs.Common.{count, Work, held, with_held, AddsCell, Index, variable_index, PutsBits, PutsPart, PutsParts, BuildsAssign, BuildsBit, BuildsTest, distinct, choices, ChoosesAll}
+use Rattle.proc_muxes.proofs.Common.{restored, kept, mattering, case_shape, BuildsEqual, BuildsLabel, BuildsMore, BuildsMatch, Builds, BuildsArms, put_cells, puts_cells, assign_cells, equal_cells}
+use Rattle.proc_muxes.proofs.Common.{label_cells, labels_cells, match_cells, cells_of, arms_cells, test_cells}
 use Rattle.proc_muxes.proofs.Piecing.{indices-counted}
 
 pub cell-counted : (kind : CellKind) (ports : List (List Bit)) (w : ℕ) (at : Span) (a b : Building) → AddsCell kind ports w at a b → length b.cells ≡ length a.cells + 1

@@ -1,18 +1,7 @@
 -- What the calls for a choice ask of changes and choices holds after its parts.
-use Rattle.std.proofs.Common.{◌≡◌, ℕ, ◌≤◌, Bool, true, false, List, [], ◌∷◌, ◌++◌, length, refl, sym, ◌∙◌, ap, subst}
-use Rattle.std.specs.Prelude.{if◌then◌else◌}
-use Rattle.std.proofs.lemmas.List.{length-map}
-use Rattle.netlist_core.specs.declared.bit.Bit.{Bit}
-use Rattle.vlog_effects.specs.Steps.{Steps}
-use Rattle.vlog_effects.specs.Latches.{Target, targets}
-use Rattle.net_builder.specs.Building.{AllBelow}
-use Rattle.net_builder.proofs.Parts.{below_later}
-use Rattle.proc_muxes.specs.declared.change.Change.{Change}
-use Rattle.proc_muxes.specs.declared.choice.Choice.{Choice}
-use Rattle.proc_muxes.specs.Builds.{Work, held, choices, restored, stands, distinct_after, distinct}
-use Rattle.proc_muxes.specs.Shows.{Known, Keeps, StandsBelow}
-use Rattle.proc_muxes.specs.Working.{changes_of, joined, all_have, AllFit, AllChoicesFit, AreWide, given_back, chosen, Built}
-use Rattle.proc_muxes.specs.Laws.{ChangesFit, ChoicesFit}
+use Rattle.proc_muxes.proofs.Common.{◌≡◌, ℕ, ◌≤◌, Bool, true, false, List, [], ◌∷◌, ◌++◌, length, refl, sym, ◌∙◌, ap, subst, if◌then◌else◌, length-map, Bit, Steps, Target, targets, AllBelow}
+use Rattle.proc_muxes.proofs.Common.{below_later, Change, Choice, Work, held, choices, restored, stands, distinct_after, distinct, Known, Keeps, StandsBelow, changes_of, joined, all_have, AllFit}
+use Rattle.proc_muxes.proofs.Common.{AllChoicesFit, AreWide, given_back, chosen, Built, ChangesFit, ChoicesFit}
 use Rattle.proc_muxes.proofs.Frames.{known-append, known-distinct, keeps-again, keeps-restored, keeps-widths, stands-held, nets-added}
 use Rattle.proc_muxes.proofs.Joining.{changes-joined}
 use Rattle.proc_muxes.proofs.Keeping.{keeps}

@@ -1,19 +1,10 @@
 -- What building leaves as it is: earlier cells, the widths of all signals, and the bits of signals that are no targets.
-use Rattle.std.proofs.Common.{◌≡◌, ℕ, zero, suc, ◌<◌, ◌≤◌, Bool, true, false, ◌&&◌, ◌||◌, List, [], ◌∷◌, ◌++◌, length, Some, nat_eq, slice_get, refl, sym, ◌∙◌, ap, subst, inl, inr, append-nil, append_assoc}
-use Rattle.std.specs.Prelude.{if◌then◌else◌}
-use Rattle.std.proofs.lemmas.List.{length-set, get_or-set_same, get_or-set_other}
-use Rattle.std.proofs.lemmas.Bool.Decides.{eqb_tells}
-use Rattle.netlist_core.specs.declared.bit.Bit.{Bit}
+use Rattle.proc_muxes.proofs.Common.{◌≡◌, ℕ, ◌<◌, ◌≤◌, Bool, true, false, ◌&&◌, ◌||◌, List, [], ◌∷◌, ◌++◌, length, Some, nat_eq, slice_get, refl, sym, ◌∙◌, ap, subst, inl, inr, append-nil}
+use Rattle.proc_muxes.proofs.Common.{append_assoc, if◌then◌else◌, length-set, get_or-set_same, get_or-set_other, eqb_tells, Bit, Nets, bit_same, Target, or-left, or-right, and-left, and-right}
+use Rattle.proc_muxes.proofs.Common.{Building, RunsIn, Grows, AllBelow, signal, with_signal, below_later, nets_le, added_append, earlier_cell, Work, held, with_held, stands, distinct_after, distinct}
+use Rattle.proc_muxes.proofs.Common.{restored, Known, Adds, StandsBelow, Keeps, or_end, exact_unsigned_eq}
 use Rattle.netlist_core.specs.declared.cell.Cell.{Cell}
-use Rattle.netlist_core.specs.Runs.{Nets}
-use Rattle.vlog_effects.specs.Effects.{bit_same}
-use Rattle.vlog_effects.specs.Latches.{Target}
-use Rattle.vlog_effects.proofs.Bools.{or-left, or-right, and-left, and-right}
 use Rattle.net_builder.specs.declared.builder.Joint.{Joint}
-use Rattle.net_builder.specs.Building.{Building, RunsIn, Grows, AllBelow, signal, with_signal}
-use Rattle.net_builder.proofs.Parts.{below_later, nets_le, added_append}
-use Rattle.proc_muxes.specs.Builds.{Work, held, with_held, stands, distinct_after, distinct, restored}
-use Rattle.proc_muxes.specs.Shows.{Known, Adds, StandsBelow, Keeps}
 
 -- Truth values.
 
@@ -22,9 +13,6 @@ bit_same-true true true e = refl
 bit_same-true true false e = cc
 bit_same-true false true e = cc
 bit_same-true false false e = refl
-
-pub number-true : (a b : ℕ) → nat_eq a b ≡ true → a ≡ b
-number-true a b e = elim (eqb_tells a b) [ inl h ↦ h.1 | inr h ↦ let f = h.0 in cc ]
 
 pub number-false : (a b : ℕ) → nat_eq a b ≡ false → nat_eq b a ≡ false
 number-false a b e = elim (eqb_tells b a) [
@@ -80,11 +68,6 @@ adds-set a k bits = record { more = []; cells = sym (append-nil a.cells); joints
 
 pub nets-added : (a b : Building) → Adds a b → a.nets ≤ b.nets
 nets-added a b g = nets_le a.nets b.nets g.more g.added
-
-earlier_cell : (cells more : List Cell) (k : ℕ) (cell : Cell) → slice_get cells k ≡ Some cell → slice_get (cells ++ more) k ≡ Some cell
-earlier_cell [] more k cell e = cc
-earlier_cell (x ∷ cells) more zero cell e = e
-earlier_cell (x ∷ cells) more (suc k) cell e = earlier_cell cells more k cell e
 
 -- a run of what a builder grew to is one of what it was
 pub runs-before : (old new : Building) (nets : Nets) → Adds old new → RunsIn new nets → RunsIn old nets
@@ -146,7 +129,7 @@ when-new false d m s e = e
 
 this-stands : (kind : Bool) (seen : List Target) (x : Target) (n : ℕ) → is_this kind x n ≡ true → stands kind seen n ≡ stands x.is_blocking seen x.number
 this-stands kind seen x n h =
-    let same : x.number ≡ n = number-true x.number n (and-left (nat_eq x.number n) (bit_same kind x.is_blocking) h) in
+    let same : x.number ≡ n = exact_unsigned_eq x.number n (and-left (nat_eq x.number n) (bit_same kind x.is_blocking) h) in
     let alike : kind ≡ x.is_blocking = bit_same-true kind x.is_blocking (and-right (nat_eq x.number n) (bit_same kind x.is_blocking) h) in
     rw (alike, ← same) refl
 
@@ -163,12 +146,8 @@ distinct-same : (kind : Bool) (seen xs : List Target) (n : ℕ) → (stands kind
 distinct-same kind seen [] n = refl
 distinct-same kind seen (x ∷ more) n = skipped kind seen x more n (distinct-same kind seen more n) (distinct-same kind (x ∷ seen) more n)
 
-or-nothing : (b : Bool) → (b || false) ≡ b
-or-nothing true = refl
-or-nothing false = refl
-
 pub stands-distinct : (kind : Bool) (xs : List Target) (n : ℕ) → stands kind (distinct xs) n ≡ stands kind xs n
-stands-distinct kind xs n = sym (or-nothing (stands kind (distinct xs) n)) ∙ distinct-same kind [] xs n ∙ or-nothing (stands kind xs n)
+stands-distinct kind xs n = sym (or_end (stands kind (distinct xs) n)) ∙ distinct-same kind [] xs n ∙ or_end (stands kind xs n)
 
 -- What building keeps.
 

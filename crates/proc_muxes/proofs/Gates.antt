@@ -1,21 +1,9 @@
 -- What the cells of processes compute, as bits.
-use Rattle.std.proofs.Common.{◌≡◌, ℕ, zero, suc, ◌+◌, ◌-◌, ◌*◌, ◌/◌, ◌%◌, ◌^◌, Bool, true, false, not, ◌&&◌, ◌||◌, List, [], ◌∷◌, length, nat_eq, refl, sym, ◌∙◌, ap, subst, arith, add-one}
-use Rattle.std.specs.Prelude.{if◌then◌else◌}
+use Rattle.proc_muxes.proofs.Common.{◌≡◌, ℕ, zero, suc, ◌+◌, ◌-◌, ◌*◌, ◌/◌, ◌%◌, ◌^◌, Bool, true, false, not, ◌&&◌, ◌||◌, List, [], ◌∷◌, length, nat_eq, refl, sym, ◌∙◌, ap, subst, arith, add-one}
+use Rattle.proc_muxes.proofs.Common.{if◌then◌else◌, nat_tests, Span, Bit, CellKind, Mux, Ror, Eq, Lor, digit, number, cell_number, some_one, Nets, bit_value, values, plain, ports_seen, bits_of}
+use Rattle.proc_muxes.proofs.Common.{bit_same, agree, Building, RunsIn, fresh_bits, with_cell, cell_computes, length_fresh, AddsCell, kept, mattering, BuildsEqual}
 use Rattle.std.proofs.lemmas.Nat.{mod-pow-add}
-use Rattle.std.proofs.lemmas.Bool.Decides.{nat_tests}
-use Rattle.mcy_base.specs.declared.span.Span.{Span}
-use Rattle.netlist_core.specs.declared.bit.Bit.{Bit}
-use Rattle.netlist_core.specs.declared.cell.CellKind.{CellKind}
-use Rattle.netlist_core.specs.declared.cell.CellKind.TheVariants.{Mux, Ror, Eq, Lor}
-use Rattle.netlist_core.specs.Numbers.{digit, number}
-use Rattle.netlist_core.specs.Cells.{cell_number, some_one}
-use Rattle.netlist_core.specs.Runs.{Nets, bit_value, values, plain, ports_seen}
-use Rattle.vlog_effects.specs.Expressions.{bits_of}
-use Rattle.vlog_effects.specs.Effects.{bit_same, agree}
-use Rattle.net_builder.specs.Building.{Building, RunsIn, fresh_bits, with_cell}
-use Rattle.net_builder.proofs.Parts.{cell_computes, length_fresh}
 use Rattle.elab_expr.proofs.KindLemmas.{some_tells}
-use Rattle.proc_muxes.specs.Builds.{AddsCell, kept, mattering, BuildsEqual}
 use Rattle.proc_muxes.proofs.Bits.{values-are}
 
 -- the lowest bits of a remainder are those of the number

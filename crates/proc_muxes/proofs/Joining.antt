@@ -1,20 +1,9 @@
 -- Changes of statements that run one after the other.
-use Rattle.std.proofs.Common.{◌≡◌, ℕ, Bool, true, false, ◌&&◌, ◌||◌, List, [], ◌∷◌, ◌++◌, nat_eq, refl, sym, ◌∙◌, ap, subst, append_assoc, append-nil}
-use Rattle.std.specs.Prelude.{if◌then◌else◌}
-use Rattle.std.proofs.lemmas.List.{map-append}
-use Rattle.netlist_core.specs.declared.bit.Bit.{Bit}
-use Rattle.vlog_meaning.specs.Scopes.{Names}
-use Rattle.vlog_effects.specs.LeftSides.{parts_of}
-use Rattle.vlog_effects.specs.Steps.{Steps, Done, Assign, Choose, Case, Refuse, followed, InNames, in_turn}
-use Rattle.vlog_effects.specs.Effects.{bit_same}
-use Rattle.vlog_effects.specs.Latches.{Target, targets, arms_targets, parts_targets}
-use Rattle.vlog_effects.proofs.Bools.{and-left, and-right}
+use Rattle.proc_muxes.proofs.Common.{◌≡◌, ℕ, Bool, true, false, ◌&&◌, ◌||◌, List, [], ◌∷◌, ◌++◌, nat_eq, refl, sym, ◌∙◌, ap, subst, append_assoc, append-nil, if◌then◌else◌, map-append, Bit, Names}
+use Rattle.proc_muxes.proofs.Common.{parts_of, Steps, Done, Assign, Choose, Case, Refuse, followed, InNames, in_turn, bit_same, Target, targets, arms_targets, parts_targets, and-left, and-right}
+use Rattle.proc_muxes.proofs.Common.{Change, Work, held, stands, distinct_after, distinct, Builds, Keeps, change_of, changes_of, is_changed, joined, Built, or_end, exact_unsigned_eq}
 use Rattle.vlog_effects.proofs.Following.{followed-done, followed-again}
-use Rattle.proc_muxes.specs.declared.change.Change.{Change}
-use Rattle.proc_muxes.specs.Builds.{Work, held, stands, distinct_after, distinct, Builds}
-use Rattle.proc_muxes.specs.Shows.{Keeps}
-use Rattle.proc_muxes.specs.Working.{change_of, changes_of, is_changed, joined, Built}
-use Rattle.proc_muxes.proofs.Frames.{bit_same-true, number-true, stands-distinct}
+use Rattle.proc_muxes.proofs.Frames.{bit_same-true, stands-distinct}
 use Rattle.proc_muxes.proofs.Keeping.{keeps}
 
 -- Steps one after the other.
@@ -63,7 +52,7 @@ stands-after kind seen [] n = refl
 stands-after kind seen (x ∷ xs) n = go (stands x.is_blocking seen x.number) refl (stands-after kind seen xs n) (stands-after kind (x ∷ seen) xs n) where
   here : is_this kind x n ≡ true → stands kind seen n ≡ stands x.is_blocking seen x.number
   here h =
-      let same : x.number ≡ n = number-true x.number n (and-left (nat_eq x.number n) (bit_same kind x.is_blocking) h) in
+      let same : x.number ≡ n = exact_unsigned_eq x.number n (and-left (nat_eq x.number n) (bit_same kind x.is_blocking) h) in
       let alike : kind ≡ x.is_blocking = bit_same-true kind x.is_blocking (and-right (nat_eq x.number n) (bit_same kind x.is_blocking) h) in
       rw (alike, ← same) refl
 
@@ -126,7 +115,7 @@ join-from a m ps same cs seen done (x ∷ qs) is old within =
       both-seen kind n e f h = pick (is_this kind x n) refl h where
         pick : (b : Bool) → is_this kind x n ≡ b → (b || stands kind done n) ≡ true → stands kind seen n ≡ true
         pick true g k =
-            let number_is : x.number ≡ n = number-true x.number n (and-left (nat_eq x.number n) (bit_same kind x.is_blocking) g) in
+            let number_is : x.number ≡ n = exact_unsigned_eq x.number n (and-left (nat_eq x.number n) (bit_same kind x.is_blocking) g) in
             let alike : kind ≡ x.is_blocking = bit_same-true kind x.is_blocking (and-right (nat_eq x.number n) (bit_same kind x.is_blocking) g) in
             rw (alike, ← number_is) e
         pick false g k = f k
@@ -150,10 +139,6 @@ join-from a m ps same cs seen done (x ∷ qs) is old within =
           let change : change_of m x ≡ change_of a x = ap (λ (t : List Bit). record { number = x.number; is_blocking = x.is_blocking; before = t }) here in
           rw (is x.is_blocking x.number, s) (ap (λ (t : Change). joined (cs ++ t ∷ []) (changes_of m (distinct_after (x ∷ done) qs))) change ∙ three ∙ append_assoc cs (change_of a x ∷ []) (changes_of a (distinct_after (x ∷ seen) qs)))
 
-or-nothing : (b : Bool) → (b || false) ≡ b
-or-nothing true = refl
-or-nothing false = refl
-
 -- changes that are joined one after the other are those of the targets without repetition
 join-seen : (a : Work) (cs : List Change) (seen ts : List Target) → ((kind : Bool) (n : ℕ) → is_changed kind cs n ≡ stands kind seen n) → joined cs (changes_of a ts) ≡ cs ++ changes_of a (distinct_after seen ts)
 join-seen a cs seen [] is = sym (append-nil cs)
@@ -171,7 +156,7 @@ join-all a ts = join-seen a [] [] ts (λ kind n. refl)
 pub changes-both : (ps qs : List Target) (a m : Work) → ((kind : Bool) (n : ℕ) → stands kind ps n ≡ false → held m kind n ≡ held a kind n) → joined (changes_of a (distinct ps)) (changes_of m (distinct qs)) ≡ changes_of a (distinct ps) ++ changes_of a (distinct_after (seen_after [] ps) qs)
 changes-both ps qs a m still =
     let seen : List Target = seen_after [] ps in
-    let after : (kind : Bool) (n : ℕ) → stands kind seen n ≡ stands kind ps n = λ kind n. stands-after kind [] ps n ∙ or-nothing (stands kind ps n) in
+    let after : (kind : Bool) (n : ℕ) → stands kind seen n ≡ stands kind ps n = λ kind n. stands-after kind [] ps n ∙ or_end (stands kind ps n) in
     join-from a m ps still (changes_of a (distinct ps)) seen [] qs
     (λ kind n. is_changed-of kind a (distinct ps) n ∙ stands-distinct kind ps n ∙ sym (after kind n))
     (λ kind n h. after kind n ∙ h)

@@ -1,23 +1,13 @@
 -- What each kind of step keeps.
-use Rattle.std.proofs.Common.{◌≡◌, ℕ, zero, suc, ◌<◌, Bool, true, false, ◌||◌, List, [], ◌∷◌, ◌++◌, take, drop, length, Option, Some, None, refl, sym, ◌∙◌, ap, subst, inl, inr, append_assoc}
-use Rattle.mcy_base.specs.declared.span.Span.{Span}
-use Rattle.netlist_core.specs.declared.bit.Bit.{Bit}
-use Rattle.netlist_core.specs.declared.cell.CellKind.{CellKind}
-use Rattle.netlist_core.specs.declared.cell.CellKind.TheVariants.{Mux, Put}
-use Rattle.vlog_syntax.specs.Places.{first_token}
-use Rattle.vlog_syntax.specs.declared.expr.Expr.{Expr}
-use Rattle.vlog_meaning.specs.Scopes.{Names, nothing}
-use Rattle.vlog_effects.specs.Expressions.{bits_of}
-use Rattle.vlog_effects.specs.LeftSides.{Part, Vector, parts_of, part_vector, parts_width, places, written}
-use Rattle.vlog_effects.specs.Steps.{Assigning, Test, Selection, Steps, Done, Assign, Choose, Case, Refuse, Arms, Otherwise, Arm, dont_care}
-use Rattle.vlog_effects.specs.Latches.{Target, targets, arms_targets, part_targets, parts_targets}
-use Rattle.vlog_effects.proofs.Bools.{or-right}
-use Rattle.net_builder.specs.Building.{Building, Grows, AllBelow, fresh_bits}
-use Rattle.net_builder.proofs.Parts.{below_later, fresh_below, length_fresh, grows_not, grows_again}
-use Rattle.proc_muxes.specs.Builds.{Work, held, with_held, AddsCell, Index, variable_index, BuildsIndex, BuildsIndices, PutsBits, PutsPart, PutsParts, BuildsAssign, BuildsBit, BuildsTest, stands, distinct, choice_of, choices, Chooses, ChoosesAll, restored, kept, mattering, BuildsEqual, BuildsLabel, BuildsMore, BuildsMatch, Builds, BuildsArms}
-use Rattle.proc_muxes.specs.Shows.{Keeps}
+use Rattle.proc_muxes.proofs.Common.{◌≡◌, ℕ, zero, suc, ◌<◌, Bool, true, false, ◌||◌, List, [], ◌∷◌, ◌++◌, take, drop, length, Option, Some, None, refl, sym, ◌∙◌, ap, subst, inl, inr, append_assoc}
+use Rattle.proc_muxes.proofs.Common.{Span, Bit, CellKind, Mux, Put, first_token, Expr, Names, nothing, bits_of, Part, Vector, parts_of, part_vector, parts_width, places, written, Assigning, Test}
+use Rattle.proc_muxes.proofs.Common.{Selection, Steps, Done, Assign, Choose, Case, Refuse, Arms, Otherwise, Arm, dont_care, Target, targets, arms_targets, part_targets, parts_targets, or-right}
+use Rattle.proc_muxes.proofs.Common.{Building, Grows, AllBelow, fresh_bits, below_later, fresh_below, length_fresh, grows_not, grows_again, Work, held, with_held, AddsCell, Index, variable_index}
+use Rattle.proc_muxes.proofs.Common.{BuildsIndex, BuildsIndices, PutsBits, PutsPart, PutsParts, BuildsAssign, BuildsBit, BuildsTest, stands, distinct, choice_of, choices, Chooses, ChoosesAll}
+use Rattle.proc_muxes.proofs.Common.{restored, kept, mattering, BuildsEqual, BuildsLabel, BuildsMore, BuildsMatch, Builds, BuildsArms, Keeps}
 use Rattle.proc_muxes.proofs.Bits.{length-written, below-written, below-take, below-drop}
-use Rattle.proc_muxes.proofs.Frames.{known-append, stands-append, stands-distinct, keeps-same, keeps-grown, keeps-again, keeps-turned, keeps-restored, keeps-held, held-grown, stands-held, signals-grown, nets-added}
+use Rattle.proc_muxes.proofs.Frames.{known-append, stands-append, stands-distinct, keeps-same, keeps-grown, keeps-again, keeps-turned, keeps-restored, keeps-held, held-grown, stands-held}
+use Rattle.proc_muxes.proofs.Frames.{signals-grown, nets-added}
 
 -- Builders that grow.
 

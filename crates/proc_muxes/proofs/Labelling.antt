@@ -1,30 +1,9 @@
 -- The labels of an item, one after the other.
-use Rattle.std.proofs.Common.{◌≡◌, ℕ, zero, suc, ◌+◌, ◌<◌, ◌≤◌, ◌%◌, ◌/◌, Bool, true, false, List, [], ◌∷◌, ◌++◌, drop, length, get_or, refl, sym, ◌∙◌, ap, subst, arith}
-use Rattle.std.specs.Prelude.{◌==◌}
-use Rattle.std.proofs.lemmas.List.{drop_more, drop_all}
-use Rattle.mcy_base.specs.declared.span.Span.{Span}
-use Rattle.netlist_core.specs.declared.bit.Bit.{Bit}
-use Rattle.netlist_core.specs.declared.bit.Bit.TheVariants.{Fixed, Net}
-use Rattle.netlist_core.specs.declared.cell.CellKind.TheVariants.{Eq, Lor}
-use Rattle.vlog_syntax.specs.Places.{first_token}
-use Rattle.vlog_syntax.specs.declared.expr.Expr.{Expr}
-use Rattle.vlog_syntax.specs.declared.stmt.CaseKind.{CaseKind}
-use Rattle.vlog_meaning.specs.declared.shapes.Shape.{Shape}
-use Rattle.vlog_meaning.specs.Scopes.{Names}
-use Rattle.vlog_effects.specs.Expressions.{bits_of}
-use Rattle.vlog_effects.specs.Steps.{Selection, dont_care}
+use Rattle.proc_muxes.proofs.Common.{◌≡◌, ℕ, zero, suc, ◌+◌, ◌<◌, ◌≤◌, ◌%◌, ◌/◌, Bool, true, false, List, [], ◌∷◌, ◌++◌, drop, length, get_or, refl, sym, ◌∙◌, ap, subst, arith, ◌==◌, drop_more}
+use Rattle.proc_muxes.proofs.Common.{drop_all, Span, Bit, Fixed, Net, Eq, Lor, first_token, Expr, CaseKind, Shape, Names, bits_of, Selection, dont_care, Building, Grows, AllBelow, fresh_bits}
+use Rattle.proc_muxes.proofs.Common.{Evaluates, made, IsShort, ElabError, count, more_short, grows_again, length_fresh, IsOf, IsLaid, AddsCell, kept, mattering, case_shape, BuildsEqual, BuildsLabel}
+use Rattle.proc_muxes.proofs.Common.{BuildsMore, BuildsMatch, IsClearLabel, AreClearLabels, equal_cells, labels_cells, match_cells}
 use Rattle.vlog_effects.proofs.Numbers.{length-bits_of}
-use Rattle.net_builder.specs.Building.{Building, Grows, AllBelow, fresh_bits}
-use Rattle.elab_expr.specs.Evaluates.{Evaluates}
-use Rattle.expr_plans.specs.Made.{made}
-use Rattle.net_builder.specs.Refusals.{IsShort}
-use Rattle.net_builder.specs.declared.error.ElabError.{ElabError}
-use Rattle.elab_expr.proofs.Growing.{count, more_short}
-use Rattle.net_builder.proofs.Parts.{grows_again, length_fresh}
-use Rattle.case_arms.specs.Naming.{IsOf}
-use Rattle.proc_muxes.specs.Builds.{IsLaid, AddsCell, kept, mattering, case_shape, BuildsEqual, BuildsLabel, BuildsMore, BuildsMatch}
-use Rattle.proc_muxes.specs.Clear.{IsClearLabel, AreClearLabels}
-use Rattle.proc_muxes.specs.Counts.{equal_cells, labels_cells, match_cells}
 use Rattle.proc_muxes.proofs.Counting.{label-counted, cell-counted}
 use Rattle.proc_muxes.proofs.Gates.{kept-length}
 use Rattle.proc_muxes.proofs.Keeping.{fresh-after}

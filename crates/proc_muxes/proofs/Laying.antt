@@ -1,26 +1,12 @@
 -- What is built of statements is what they lay.
-use Rattle.std.proofs.Common.{◌≡◌, ℕ, zero, suc, Bool, false, List, [], ◌∷◌, ◌++◌, take, drop, length, Option, Some, None, ◌∙◌, ap, inl, inr, arith}
-use Rattle.std.specs.Prelude.{Result, Ok, Err, IfOk}
-use Rattle.std.proofs.lemmas.Bool.Decides.{leb_tells}
-use Rattle.mcy_base.specs.declared.span.Span.{Span}
-use Rattle.netlist_core.specs.declared.bit.Bit.{Bit}
-use Rattle.netlist_core.specs.declared.cell.CellKind.TheVariants.{Lor}
-use Rattle.vlog_syntax.specs.Places.{first_token}
-use Rattle.vlog_syntax.specs.declared.expr.Expr.{Expr}
-use Rattle.vlog_meaning.specs.Scopes.{Names}
-use Rattle.vlog_meaning.specs.Senses.{sense}
-use Rattle.vlog_effects.specs.Expressions.{bits_of}
-use Rattle.vlog_effects.specs.LeftSides.{Select, Part, Vector, part_vector, parts_of, parts_width}
-use Rattle.vlog_effects.specs.Latches.{Target, targets, arms_targets}
-use Rattle.vlog_effects.specs.Steps.{Assigning, Test, Selection, Steps, Done, Assign, Choose, Case, Refuse, Arms, Otherwise, Arm, dont_care}
-use Rattle.net_builder.specs.Building.{Building, fresh_bits}
-use Rattle.net_builder.specs.declared.error.ElabError.{ElabError}
-use Rattle.elab_expr.specs.Laid.{Laid, showing, cell, reduced, index_bits}
-use Rattle.proc_muxes.specs.declared.change.Change.{Change}
-use Rattle.proc_muxes.specs.declared.choice.Choice.{Choice}
-use Rattle.proc_muxes.specs.Builds.{Work, held, with_held, Index, variable_index, BuildsIndex, BuildsIndices, PutsBits, PutsPart, PutsParts, BuildsAssign, BuildsBit, BuildsTest, distinct, choices, Chooses, ChoosesAll, restored, kept, mattering, BuildsEqual, BuildsLabel, BuildsMore, BuildsMatch, Builds, BuildsArms}
-use Rattle.proc_muxes.specs.Laid.{with_cells, lay_index, LaidIndices, with_index, lay_indices, lay_put, lay_part, lay_parts, lay_left, lay_assign, lay_test, lay_mux, lay_muxes, lay_equal, lay_label, lay_labels, lay_match, lay_steps, lay_items}
-use Rattle.proc_muxes.specs.Working.{Built}
+use Rattle.proc_muxes.proofs.Common.{◌≡◌, ℕ, zero, suc, Bool, false, List, [], ◌∷◌, ◌++◌, take, drop, length, Option, Some, None, ◌∙◌, ap, inl, inr, arith, Result, Ok, Err, leb_tells, Span, Bit, Lor}
+use Rattle.proc_muxes.proofs.Common.{first_token, Expr, Names, sense, bits_of, Select, Part, Vector, part_vector, parts_of, parts_width, Target, targets, arms_targets, Assigning, Test, Selection}
+use Rattle.proc_muxes.proofs.Common.{Steps, Done, Assign, Choose, Case, Refuse, Arms, Otherwise, Arm, dont_care, Building, fresh_bits, ElabError, Laid, showing, cell, reduced, index_bits, Change}
+use Rattle.proc_muxes.proofs.Common.{Choice, Work, held, with_held, Index, variable_index, BuildsIndex, BuildsIndices, PutsBits, PutsPart, PutsParts, BuildsAssign, BuildsBit, BuildsTest, distinct}
+use Rattle.proc_muxes.proofs.Common.{choices, Chooses, ChoosesAll, restored, kept, mattering, BuildsEqual, BuildsLabel, BuildsMore, BuildsMatch, Builds, BuildsArms, Built}
+use Rattle.std.specs.Prelude.{IfOk}
+use Rattle.proc_muxes.specs.Laid.{with_cells, lay_index, LaidIndices, with_index, lay_indices, lay_put, lay_part, lay_parts, lay_left, lay_assign, lay_test, lay_mux, lay_muxes, lay_equal, lay_label}
+use Rattle.proc_muxes.specs.Laid.{lay_labels, lay_match, lay_steps, lay_items}
 
 -- Assignments.
 

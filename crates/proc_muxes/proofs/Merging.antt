@@ -1,21 +1,9 @@
 -- Giving back what variables had, and the muxes of a choice.
-use Rattle.std.proofs.lemmas.List.{length-set, map-append}
-use Rattle.std.proofs.Common.{◌≡◌, ℕ, Bool, true, false, ◌&&◌, ◌||◌, List, [], ◌∷◌, ◌++◌, drop, length, nat_eq, refl, sym, ◌∙◌, ap, subst, append-nil, ext_get_or}
-use Rattle.std.specs.Prelude.{if◌then◌else◌}
-use Rattle.mcy_base.specs.declared.span.Span.{Span}
-use Rattle.netlist_core.specs.declared.bit.Bit.{Bit}
-use Rattle.vlog_effects.specs.Steps.{Test, Steps, Done, Choose}
-use Rattle.vlog_effects.specs.Effects.{bit_same}
-use Rattle.vlog_effects.specs.Latches.{Target, targets}
-use Rattle.vlog_effects.proofs.Bools.{and-left, and-right, or-right}
-use Rattle.net_builder.specs.Building.{AllBelow}
-use Rattle.net_builder.proofs.Parts.{below_later}
-use Rattle.proc_muxes.specs.declared.change.Change.{Change}
-use Rattle.proc_muxes.specs.declared.choice.Choice.{Choice}
-use Rattle.proc_muxes.specs.Builds.{Work, held, with_held, choice_of, choices, ChoosesAll, restored, stands, distinct_after, distinct, BuildsTest}
-use Rattle.proc_muxes.specs.Shows.{Known, Keeps}
-use Rattle.proc_muxes.specs.Working.{change_of, changes_of, joined, all_have, all_had, CanHave, FitsChange, AllFit, AllChoicesFit, given_back, chosen, Built}
-use Rattle.proc_muxes.proofs.Frames.{known-distinct, stands-distinct, bit_same-true, number-true, keeps-widths, nets-added, keeps-held}
+use Rattle.proc_muxes.proofs.Common.{length-set, map-append, ◌≡◌, ℕ, Bool, true, false, ◌&&◌, ◌||◌, List, [], ◌∷◌, ◌++◌, drop, length, nat_eq, refl, sym, ◌∙◌, ap, subst, append-nil, ext_get_or}
+use Rattle.proc_muxes.proofs.Common.{if◌then◌else◌, Span, Bit, Test, Steps, Done, Choose, bit_same, Target, targets, and-left, and-right, or-right, AllBelow, below_later, Change, Choice, Work, held}
+use Rattle.proc_muxes.proofs.Common.{with_held, choice_of, choices, ChoosesAll, restored, stands, distinct_after, distinct, BuildsTest, Known, Keeps, change_of, changes_of, joined, all_have, all_had}
+use Rattle.proc_muxes.proofs.Common.{CanHave, FitsChange, AllFit, AllChoicesFit, given_back, chosen, Built, exact_unsigned_eq}
+use Rattle.proc_muxes.proofs.Frames.{known-distinct, stands-distinct, bit_same-true, keeps-widths, nets-added, keeps-held}
 use Rattle.proc_muxes.proofs.Keeping.{keeps, keeps-test}
 use Rattle.proc_muxes.proofs.Simulates.{held-with}
 use Rattle.proc_muxes.proofs.Joining.{seen_after, distinct-append, stands-after, changes-both, changes-joined, keeps-still}
@@ -68,7 +56,7 @@ given-held t (x ∷ more) w kind n k =
       pick : (h : Bool) → is_this kind x n ≡ h → (s : Bool) → (if s then held t kind n else (if h then held t x.is_blocking x.number else held w kind n)) ≡ (if h || s then held t kind n else held w kind n)
       pick true e true = refl
       pick true e false =
-          let same : x.number ≡ n = number-true x.number n (and-left (nat_eq x.number n) (bit_same kind x.is_blocking) e) in
+          let same : x.number ≡ n = exact_unsigned_eq x.number n (and-left (nat_eq x.number n) (bit_same kind x.is_blocking) e) in
           let alike : kind ≡ x.is_blocking = bit_same-true kind x.is_blocking (and-right (nat_eq x.number n) (bit_same kind x.is_blocking) e) in
           rw (alike, ← same) refl
       pick false e true = refl
@@ -105,7 +93,7 @@ given-restores ps t y k = λ j. record { building = building_is j; pending = λ 
 
 -- Choices.
 
-have-is : (t y : Work) (ds : List Target) → all_have y (changes_of t ds) ≡ choices y ds
+pub have-is : (t y : Work) (ds : List Target) → all_have y (changes_of t ds) ≡ choices y ds
 have-is t y [] = refl
 have-is t y (x ∷ more) = ap (λ (l : List Choice). choice_of y x ∷ l) (have-is t y more)
 

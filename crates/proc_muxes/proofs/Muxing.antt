@@ -1,19 +1,7 @@
 -- The mux of a choice, and the ones after it.
-use Rattle.std.proofs.Common.{◌≡◌, ℕ, suc, ◌+◌, ◌-◌, ◌≤◌, Bool, true, false, List, [], ◌∷◌, ◌++◌, take, drop, length, get_or, refl, sym, ◌∙◌, ap, subst, arith}
-use Rattle.std.proofs.Math.Seq.{take-length}
-use Rattle.std.proofs.lemmas.List.{length-append}
-use Rattle.std.specs.Prelude.{if◌then◌else◌}
-use Rattle.mcy_base.specs.declared.span.Span.{Span}
-use Rattle.netlist_core.specs.declared.bit.Bit.{Bit}
-use Rattle.netlist_core.specs.declared.cell.CellKind.TheVariants.{Mux}
-use Rattle.vlog_effects.specs.Latches.{Target}
-use Rattle.net_builder.specs.Building.{Building, Grows, AllBelow, fresh_bits, with_cell}
-use Rattle.net_builder.proofs.Parts.{below_later, grown_by, length_fresh}
-use Rattle.proc_muxes.specs.declared.change.Change.{Change}
-use Rattle.proc_muxes.specs.declared.choice.Choice.{Choice}
-use Rattle.proc_muxes.specs.Builds.{Work, held, with_held, Chooses, ChoosesAll}
-use Rattle.proc_muxes.specs.Shows.{StandsBelow, Keeps}
-use Rattle.proc_muxes.specs.Working.{FitsChoice, AllChoicesFit, is_changed, joined}
+use Rattle.proc_muxes.proofs.Common.{◌≡◌, ℕ, suc, ◌+◌, ◌-◌, ◌≤◌, Bool, true, false, List, [], ◌∷◌, ◌++◌, take, drop, length, get_or, refl, sym, ◌∙◌, ap, subst, arith, take-length, length-append}
+use Rattle.proc_muxes.proofs.Common.{if◌then◌else◌, Span, Bit, Mux, Target, Building, Grows, AllBelow, fresh_bits, with_cell, below_later, grown_by, length_fresh, Change, Choice, Work, held}
+use Rattle.proc_muxes.proofs.Common.{with_held, Chooses, ChoosesAll, StandsBelow, Keeps, FitsChoice, AllChoicesFit, is_changed, joined}
 use Rattle.proc_muxes.proofs.Frames.{stands-held, nets-added}
 use Rattle.proc_muxes.proofs.Keeping.{keeps-cell}
 use Rattle.proc_muxes.proofs.Merging.{choices-still}

@@ -1,45 +1,17 @@
 -- The arms of a case, opened one after the other.
-use Rattle.std.proofs.Common.{◌≡◌, ℕ, zero, suc, ◌+◌, ◌<◌, ◌≤◌, Bool, true, false, List, [], ◌∷◌, ◌++◌, map, take, length, get_or, refl, sym, ◌∙◌, ap, subst, arith}
-use Rattle.std.specs.Prelude.{Option, Some, IfSome, if◌then◌else◌}
-use Rattle.std.specs.Option.{option_map}
-use Rattle.std.specs.List.{flat_map}
-use Rattle.std.proofs.lemmas.List.{map-append}
-use Rattle.netlist_core.specs.declared.bit.Bit.{Bit}
-use Rattle.vlog_syntax.specs.declared.expr.Expr.{Expr}
-use Rattle.vlog_syntax.specs.declared.stmt.CaseItem.{CaseItem, out-CaseItem}
-use Rattle.vlog_syntax.specs.declared.stmt.CaseKind.{CaseKind}
-use Rattle.vlog_syntax.specs.declared.stmt.Stmt.{Stmt}
+use Rattle.proc_muxes.proofs.Common.{◌≡◌, ℕ, zero, suc, ◌+◌, ◌<◌, ◌≤◌, Bool, true, false, List, [], ◌∷◌, ◌++◌, map, take, length, get_or, refl, sym, ◌∙◌, ap, subst, arith, IfSome, if◌then◌else◌}
+use Rattle.proc_muxes.proofs.Common.{option_map, flat_map, map-append, Bit, Expr, CaseItem, out-CaseItem, CaseKind, Stmt, Fault, Shape, Names, fault, or_else, is_empty, left_nil, right_nil, these_nil}
+use Rattle.proc_muxes.proofs.Common.{those_nil, item_steps, targets, arms_targets, Steps, Selection, InNames, Item, Arms, labelled, steps_of, done_by, Building, Grows, HasSignals, refusals, IsShort}
+use Rattle.proc_muxes.proofs.Common.{ElabError, more_short, wrong, divisions, zeros_at, common_size, case_faults, labels_in, AreSized, AllWithin, LabelsWithin, item_is, item_body, arms_with, IsOf}
+use Rattle.proc_muxes.proofs.Common.{Change, OpenArm, Work, BuildsMatch, AreReadyItems, Opens, Opened, AreClearLabels, IsClear, AreClear, AreHeld, IsReady, match_cells, cells_of, items_cells, Keeps}
+use Rattle.proc_muxes.proofs.Common.{StandsBelow, Built, all_have, given_back}
+use Rattle.std.specs.Prelude.{Option, Some}
 use Rattle.vlog_meaning.specs.declared.fault.Cause.TheVariants as cause
-use Rattle.vlog_meaning.specs.declared.fault.Fault.{Fault}
-use Rattle.vlog_meaning.specs.declared.shapes.Shape.{Shape}
-use Rattle.vlog_meaning.specs.Scopes.{Names}
-use Rattle.vlog_meaning.specs.Senses.{fault, or_else, is_empty}
-use Rattle.vlog_meaning.proofs.Blanks.{left_nil, right_nil, these_nil, those_nil}
-use Rattle.vlog_effects.specs.Laws.{item_steps}
-use Rattle.vlog_effects.specs.Latches.{targets, arms_targets}
-use Rattle.vlog_effects.specs.Steps.{Steps, Selection, InNames, Item, Arms, labelled, steps_of, done_by}
-use Rattle.net_builder.specs.Building.{Building, Grows, HasSignals}
-use Rattle.elab_expr.specs.Expressions.{refusals}
-use Rattle.net_builder.specs.Refusals.{IsShort}
-use Rattle.net_builder.specs.declared.error.ElabError.{ElabError}
-use Rattle.elab_expr.proofs.Growing.{more_short}
-use Rattle.elab_proc.specs.Refusals.{wrong, divisions, zeros_at, common_size, case_faults, labels_in, AreSized}
-use Rattle.elab_proc.specs.Sizes.{AllWithin, LabelsWithin}
-use Rattle.elab_proc.proofs.StepLemmas.{item_is}
-use Rattle.case_arms.specs.Arms.{item_body, arms_with}
-use Rattle.case_arms.specs.Naming.{IsOf}
-use Rattle.proc_muxes.specs.declared.change.Change.{Change}
-use Rattle.proc_muxes.specs.declared.open_arms.OpenArm.{OpenArm}
-use Rattle.proc_muxes.specs.Builds.{Work, BuildsMatch}
-use Rattle.proc_muxes.specs.Cases.{AreReadyItems, Opens, Opened}
-use Rattle.proc_muxes.specs.Clear.{AreClearLabels, IsClear, AreClear, AreHeld, IsReady}
-use Rattle.proc_muxes.specs.Counts.{match_cells, cells_of, items_cells}
-use Rattle.proc_muxes.specs.Shows.{Keeps, StandsBelow}
-use Rattle.proc_muxes.specs.Working.{Built, all_have, given_back}
 use Rattle.proc_muxes.proofs.Counting.{match-counted}
 use Rattle.proc_muxes.proofs.Frames.{keeps-same, keeps-grown, keeps-again}
 use Rattle.proc_muxes.proofs.Keeping.{grows-match}
 use Rattle.proc_muxes.proofs.Walking.{held-first, held-next, ready-later, back-keeps, back-counted}
+use Rattle.case_arms.proofs.Bounds.{body_here}
 
 -- Items with labels.
 
@@ -187,14 +159,9 @@ match-short c selector items n k i a m arms labels e same_labels at h l full f s
 
 -- The item that is done where none matches.
 
-body-here : (items : List CaseItem) (k : ℕ) (i : CaseItem) → i ≡ get_or items k i → k < length items → item_body items k ≡ steps_of (out-CaseItem i).body
-body-here [] k i at h = absurd (omega arith)
-body-here (j ∷ js) zero i at h = ap (λ (z : CaseItem). steps_of (out-CaseItem z).body) (sym at)
-body-here (j ∷ js) (suc k) i at h = body-here js k i at (omega arith)
-
 pub last-is : (names : Names) (items : List CaseItem) (o : Option ℕ) (k : ℕ) (i : CaseItem) (body : Stmt) → o ≡ Some k → i ≡ get_or items k i → k < length items → body ≡ (out-CaseItem i).body → done_by (option_map (item_body items) o) names ≡ steps_of body names
 last-is names items o k i body some at h is =
-    ap (λ (x : Option ℕ). done_by (option_map (item_body items) x) names) some ∙ ap (λ (f : InNames). f names) (body-here items k i at h) ∙ ap (λ (s : Stmt). steps_of s names) (sym is)
+    ap (λ (x : Option ℕ). done_by (option_map (item_body items) x) names) some ∙ ap (λ (f : InNames). f names) (body_here items k i at h) ∙ ap (λ (s : Stmt). steps_of s names) (sym is)
 
 pub within-some : (items : List CaseItem) (o : Option ℕ) (k : ℕ) → o ≡ Some k → IfSome o (λ n. n < length items) → k < length items
 within-some items o k is h = subst (λ (x : Option ℕ). IfSome x (λ n. n < length items)) is h

@@ -1,34 +1,12 @@
 -- The pieces of a left side, with the cells of its indices.
-use Rattle.std.proofs.Common.{◌≡◌, ℕ, zero, suc, ◌+◌, ◌<◌, ◌≤◌, false, List, [], ◌∷◌, ◌++◌, map, take, length, get_or, Option, Some, None, refl, sym, ◌∙◌, ap, subst, arith, append-nil, append_assoc}
-use Rattle.std.proofs.lemmas.List.{map-append}
-use Rattle.mcy_base.specs.declared.span.Span.{Span}
-use Rattle.netlist_core.specs.declared.bit.Bit.{Bit}
-use Rattle.vlog_syntax.specs.declared.expr.Expr.{Expr}
-use Rattle.vlog_syntax.specs.declared.identifier.Identifier.{Identifier}
-use Rattle.vlog_syntax.specs.declared.left_side.LeftSide.{LeftSide}
-use Rattle.vlog_meaning.specs.Scopes.{Names, nothing}
-use Rattle.vlog_meaning.specs.declared.shapes.Shape.{Shape}
-use Rattle.vlog_meaning.specs.Senses.{sense, constant_integer}
-use Rattle.vlog_effects.specs.Expressions.{is_constant}
-use Rattle.vlog_effects.specs.LeftSides.{Bit as BitOf, Indexed, Part, Vector, part_vector, parts_of, parts_width, select_base, select_width, concatenated}
-use Rattle.net_builder.specs.Building.{AllBelow, Building, Grows, HasSignals}
-use Rattle.elab_expr.specs.Evaluates.{Evaluates}
-use Rattle.elab_expr.specs.Expressions.{refusals}
-use Rattle.expr_plans.specs.Made.{made, index_width}
-use Rattle.expr_plans.proofs.Indices.{index_wide, index_narrow}
-use Rattle.elab_expr.specs.Laid.{index_bits as at_cell}
-use Rattle.net_builder.specs.Refusals.{IsShort}
-use Rattle.net_builder.specs.declared.error.ElabError.{ElabError}
-use Rattle.elab_expr.proofs.Growing.{count, more_short, signals_kept}
-use Rattle.net_builder.proofs.Parts.{below_later, grown_nets}
-use Rattle.proc_muxes.specs.declared.piece.Piece.{Piece}
-use Rattle.proc_muxes.specs.declared.piece.Place.{Place}
-use Rattle.proc_muxes.specs.declared.piece.Place.TheVariants.{From, At}
-use Rattle.proc_muxes.specs.Builds.{Index, variable_index, IsLaid, BuildsIndex, BuildsIndices}
-use Rattle.proc_muxes.specs.Clear.{CanWrite, CanWriteAll}
-use Rattle.proc_muxes.specs.Counts.{index_cells, indices_cells}
-use Rattle.proc_muxes.specs.Pieces.{vector_at, IsPlace, index_bits, indices_of, ArePieces, CanBePlaced, IsFitPiece, AreFitPieces, index_at, IsPlaced, MakesPiece, MakesPieces}
+use Rattle.proc_muxes.proofs.Common.{◌≡◌, ℕ, zero, suc, ◌+◌, ◌<◌, ◌≤◌, false, List, [], ◌∷◌, ◌++◌, map, take, length, get_or, Option, Some, None, refl, sym, ◌∙◌, ap, subst, arith, append_assoc}
+use Rattle.proc_muxes.proofs.Common.{map-append, Span, Bit, Expr, Identifier, LeftSide, Names, Shape, sense, constant_integer, is_constant, BitOf, Indexed, Part, parts_of, parts_width, concatenated}
+use Rattle.proc_muxes.proofs.Common.{AllBelow, Building, Grows, HasSignals, Evaluates, refusals, made, index_width, index_wide, index_narrow, at_cell, IsShort, ElabError, count, more_short}
+use Rattle.proc_muxes.proofs.Common.{signals_kept, below_later, grown_nets, Piece, Place, From, At, Index, variable_index, IsLaid, BuildsIndex, BuildsIndices, CanWrite, CanWriteAll, index_cells}
+use Rattle.proc_muxes.proofs.Common.{indices_cells, IsPlace, indices_of, ArePieces, CanBePlaced, IsFitPiece, AreFitPieces, index_at, IsPlaced, MakesPiece, MakesPieces}
+use Rattle.proc_muxes.specs.Pieces.{index_bits}
 use Rattle.proc_muxes.proofs.Keeping.{grows-indices}
+use Rattle.elab_proc.proofs.Lists.{parts_take}
 
 -- An index.
 
@@ -53,22 +31,6 @@ index-counted names None a b bits f = ap (λ (m : Building). length m.cells) f.0
 index-counted names (Some i) a b bits f = count a b f.0 _ _ (made names i.expr (sense names i.expr).shape) f.1
 
 -- One part.
-
-same-vector : (o : Option Vector) (v w : Vector) → o ≡ Some v → o ≡ Some w → v ≡ w
-same-vector o v w e f = let g : Some v ≡ Some w = sym e ∙ f in cc
-
-pub makes : (names : Names) (p : Part) (a b : Building) (x : Piece) → CanWrite names p → part_vector names p ≡ Some (vector_at x) → select_width names (vector_at x) p.select ≡ x.size → IsPlace (variable_index names p.select) (select_base names nothing (vector_at x) p.select) x.place → ((low : ℕ) → ((index : Index) → variable_index names p.select ≡ Some index → low ≡ 0) → CanBePlaced b.nets low x.place) → BuildsIndex names (variable_index names p.select) a b (index_bits x.place) → MakesPiece names p a b x
-makes names p a b x can vector size place fit built =
-    let same : can.0 ≡ vector_at x = same-vector (part_vector names p) can.0 (vector_at x) can.1.vector vector in
-    record {
-      piece = record { vector = vector; size = size; place = place; plain = can.1.plain };
-      fit = record {
-        some = subst (λ (k : ℕ). 1 ≤ k) size (subst (λ (v : Vector). 1 ≤ select_width names v p.select) same can.1.some);
-        narrow = subst (λ (k : ℕ). k ≤ 128) size (subst (λ (v : Vector). select_width names v p.select ≤ 128) same can.1.narrow);
-        place = fit x.low (λ index h. sym (ap (λ (v : Vector). v.low) same) ∙ can.1.low index h);
-      };
-      built = built;
-    }
 
 -- Several parts.
 
@@ -131,15 +93,9 @@ makes-counted names ps a b xs ys f = indices-counted names ps a b (indices_of f.
 
 -- Several left sides.
 
-parts-next : (xs : List LeftSide) (k : ℕ) (x : LeftSide) → x ≡ get_or xs k x → k < length xs → concatenated (map parts_of (take (suc k) xs)) ≡ concatenated (map parts_of (take k xs)) ++ parts_of x
-parts-next [] k x is h = absurd (omega arith)
-parts-next (y ∷ ys) zero x is h = append-nil (parts_of y) ∙ ap (λ (z : LeftSide). parts_of z) (sym is)
-parts-next (y ∷ ys) (suc k) x is h =
-    ap (λ (l : List Part). parts_of y ++ l) (parts-next ys k x is (omega arith)) ∙ sym (append_assoc (parts_of y) (concatenated (map parts_of (take k ys))) (parts_of x))
-
 pub makes-next : (names : Names) (parts : List LeftSide) (k : ℕ) (x : LeftSide) (a m b : Building) (xs ys zs : List Piece) → x ≡ get_or parts k x → k < length parts → MakesPieces names (concatenated (map parts_of (take k parts))) a m xs ys → MakesPieces names (parts_of x) m b ys zs → MakesPieces names (concatenated (map parts_of (take (suc k) parts))) a b xs zs
 makes-next names parts k x a m b xs ys zs is h f g =
-    subst (λ (l : List Part). MakesPieces names l a b xs zs) (sym (parts-next parts k x is h)) (makes-more names (concatenated (map parts_of (take k parts))) (parts_of x) a m b xs ys zs f g)
+    subst (λ (l : List Part). MakesPieces names l a b xs zs) (sym (parts_take parts k x is h)) (makes-more names (concatenated (map parts_of (take k parts))) (parts_of x) a m b xs ys zs f g)
 
 can-right : (names : Names) (ps qs : List Part) → CanWriteAll names (ps ++ qs) → CanWriteAll names qs
 can-right names [] qs h = h
@@ -158,7 +114,7 @@ cells-append : (names : Names) (ps qs : List Part) → indices_cells names (ps +
 cells-append names [] qs = omega arith
 cells-append names (p ∷ ps) qs = let e = cells-append names ps qs in omega (arith, e)
 
-width-append : (names : Names) (ps qs : List Part) → parts_width names (ps ++ qs) ≡ parts_width names ps + parts_width names qs
+pub width-append : (names : Names) (ps qs : List Part) → parts_width names (ps ++ qs) ≡ parts_width names ps + parts_width names qs
 width-append names [] qs = omega arith
 width-append names (p ∷ ps) qs = let e = width-append names ps qs in omega (arith, e)
 
@@ -184,7 +140,7 @@ width-within names (y ∷ ys) (suc k) =
     omega (arith, e, f, g)
 
 pub width-next : (names : Names) (parts : List LeftSide) (k : ℕ) (x : LeftSide) → x ≡ get_or parts k x → k < length parts → parts_width names (concatenated (map parts_of (take (suc k) parts))) ≡ parts_width names (concatenated (map parts_of (take k parts))) + parts_width names (parts_of x)
-width-next names parts k x is h = ap (parts_width names) (parts-next parts k x is h) ∙ width-append names (concatenated (map parts_of (take k parts))) (parts_of x)
+width-next names parts k x is h = ap (parts_width names) (parts_take parts k x is h) ∙ width-append names (concatenated (map parts_of (take k parts))) (parts_of x)
 
 -- one part more has no more bits than all
 pub width-fits : (names : Names) (parts : List LeftSide) (k : ℕ) (x : LeftSide) (n : ℕ) → x ≡ get_or parts k x → k < length parts → parts_width names (concatenated (map parts_of parts)) ≤ n → parts_width names (concatenated (map parts_of (take k parts))) + parts_width names (parts_of x) ≤ n
@@ -197,7 +153,7 @@ width-fits names parts k x n is h all =
 pub element-short : (names : Names) (parts : List LeftSide) (k : ℕ) (x : LeftSide) (a m : Building) (xs ys : List Piece) (e : ElabError) → x ≡ get_or parts k x → k < length parts → MakesPieces names (concatenated (map parts_of (take k parts))) a m xs ys → IsShort (length m.cells + indices_cells names (parts_of x)) e → IsShort (length a.cells + indices_cells names (concatenated (map parts_of parts))) e
 element-short names parts k x a m xs ys e is h f short =
     let n = makes-counted names (concatenated (map parts_of (take k parts))) a m xs ys f in
-    let next = ap (indices_cells names) (parts-next parts k x is h) ∙ cells-append names (concatenated (map parts_of (take k parts))) (parts_of x) in
+    let next = ap (indices_cells names) (parts_take parts k x is h) ∙ cells-append names (concatenated (map parts_of (take k parts))) (parts_of x) in
     let within = cells-within names parts (suc k) in
     more_short (length m.cells + indices_cells names (parts_of x)) (length a.cells + indices_cells names (concatenated (map parts_of parts))) e (omega (arith, n, next, within)) short
 

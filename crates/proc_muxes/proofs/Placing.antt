@@ -1,10 +1,7 @@
 -- The places of bits that are written from a declared number on, and the writes one after the other.
-use Rattle.std.proofs.Common.{◌≡◌, ℕ, zero, suc, ◌+◌, ◌-◌, ◌<◌, ℤ, pos, ◌+ℤ◌, List, [], ◌∷◌, drop, length, get_or, set, Option, Some, None, refl, sym, ◌∙◌, ap, arith}
-use Rattle.std.proofs.Math.Seq.{drop-cons}
+use Rattle.proc_muxes.proofs.Common.{◌≡◌, ℕ, zero, suc, ◌+◌, ◌-◌, ◌<◌, ℤ, pos, ◌+ℤ◌, List, [], ◌∷◌, drop, length, get_or, set, Option, Some, None, refl, sym, ◌∙◌, ap, arith, drop-cons, length-set}
+use Rattle.proc_muxes.proofs.Common.{Bit, Vector, bit_at, bits_from, written}
 use Rattle.std.proofs.lemmas.Int.{ints}
-use Rattle.std.proofs.lemmas.List.{length-set}
-use Rattle.netlist_core.specs.declared.bit.Bit.{Bit}
-use Rattle.vlog_effects.specs.LeftSides.{Vector, bit_at, bits_from, written}
 
 -- One bit after the other.
 

@@ -1,30 +1,12 @@
 -- A put lays bits at an index.
-use Rattle.std.proofs.Common.{◌≡◌, ◌⊎◌, ℕ, zero, suc, ◌+◌, ◌-◌, ◌<◌, ◌≤◌, ◌^◌, ℤ, pos, Bool, true, false, ◌&&◌, List, [], ◌∷◌, ◌++◌, length, replicate, Option, Some, None, nat_lt, nat_le, set, refl, sym, ◌∙◌, ap, inl, inr, arith, suc-add, add-one, length-append}
-use Rattle.std.specs.Prelude.{if◌then◌else◌}
-use Rattle.std.proofs.Math.Seq.{take-length}
-use Rattle.std.proofs.lemmas.List.{length-map, length-set, length-replicate}
-use Rattle.std.proofs.lemmas.Bool.{leb-true}
-use Rattle.std.proofs.lemmas.Bool.Decides.{leb_tells}
-use Rattle.mcy_base.specs.declared.span.Span.{Span}
-use Rattle.netlist_core.specs.declared.bit.Bit.{Bit}
-use Rattle.netlist_core.specs.declared.cell.CellKind.TheVariants.{Put}
-use Rattle.netlist_core.specs.Numbers.{number}
-use Rattle.netlist_core.specs.Cells.{laid_at}
-use Rattle.netlist_core.specs.Runs.{Nets, bit_value, values}
-use Rattle.vlog_meaning.specs.declared.shapes.Shape.{Shape}
-use Rattle.vlog_meaning.specs.Integers.{is_negative, integer, extended}
-use Rattle.vlog_meaning.proofs.Powers.{power_le}
+use Rattle.proc_muxes.proofs.Common.{◌≡◌, ◌⊎◌, ℕ, zero, suc, ◌+◌, ◌-◌, ◌<◌, ◌≤◌, ◌^◌, ℤ, pos, Bool, true, false, ◌&&◌, List, [], ◌∷◌, ◌++◌, length, replicate, Option, Some, None, nat_lt, nat_le, set}
+use Rattle.proc_muxes.proofs.Common.{refl, sym, ◌∙◌, ap, inl, inr, arith, suc-add, add-one, if◌then◌else◌, take-length, length-map, length-set, length-replicate, leb-true, leb_tells, Span, Bit, Put}
+use Rattle.proc_muxes.proofs.Common.{number, laid_at, Nets, bit_value, values, Shape, is_negative, integer, extended, power_le, bits_of, Vector, bit_at, bits_from, written, and-left, and-right}
+use Rattle.proc_muxes.proofs.Common.{Building, RunsIn, fresh_bits, index_width, index_wide, index_bits, AddsCell}
+use Rattle.std.proofs.Common.{length-append}
 use Rattle.vlog_meaning.proofs.Signs.{extended_negative, extended_positive, integer_negative, integer_positive}
-use Rattle.vlog_effects.specs.Expressions.{bits_of}
-use Rattle.vlog_effects.specs.LeftSides.{Vector, bit_at, bits_from, written}
-use Rattle.vlog_effects.proofs.Bools.{and-left, and-right}
-use Rattle.net_builder.specs.Building.{Building, RunsIn, fresh_bits}
-use Rattle.expr_plans.specs.Made.{index_width}
-use Rattle.expr_plans.proofs.Indices.{index_wide}
-use Rattle.elab_expr.specs.Laid.{index_bits}
 use Rattle.elab_expr.specs.Wiring.{fill_bit}
 use Rattle.elab_expr.proofs.Extensions.{extended_is}
-use Rattle.proc_muxes.specs.Builds.{AddsCell}
 use Rattle.proc_muxes.proofs.Bits.{bits_of-number}
 use Rattle.proc_muxes.proofs.Gates.{cell-values}
 

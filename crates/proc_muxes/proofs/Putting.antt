@@ -1,14 +1,6 @@
 -- The put that the code adds.
-use Rattle.std.proofs.Common.{◌≡◌, ℕ, ℤ, ◌≤◌, Bool, true, false, List, [], ◌∷◌, length, refl, sym, ◌∙◌, ap}
-use Rattle.mcy_base.specs.declared.span.Span.{Span}
-use Rattle.netlist_core.specs.declared.bit.Bit.{Bit}
-use Rattle.netlist_core.specs.declared.cell.CellKind.TheVariants.{Put}
-use Rattle.net_builder.specs.Building.{Building, Grows, fresh_bits, with_cell}
-use Rattle.net_builder.proofs.Parts.{grown_by, length_fresh}
-use Rattle.vlog_effects.specs.LeftSides.{Vector, bits_from, written}
-use Rattle.proc_muxes.specs.Builds.{Work, held, with_held}
-use Rattle.proc_muxes.specs.Shows.{StandsBelow}
-use Rattle.proc_muxes.specs.Working.{AreBits, PutsAt}
+use Rattle.proc_muxes.proofs.Common.{◌≡◌, ℕ, ℤ, ◌≤◌, Bool, true, false, List, [], ◌∷◌, length, refl, sym, ◌∙◌, ap, Span, Bit, Put, Building, Grows, fresh_bits, with_cell, grown_by, length_fresh}
+use Rattle.proc_muxes.proofs.Common.{Vector, bits_from, written, Work, held, with_held, StandsBelow, AreBits, PutsAt}
 use Rattle.proc_muxes.proofs.Bits.{length-written}
 use Rattle.proc_muxes.proofs.Frames.{stands-held}
 

@@ -1,18 +1,9 @@
 -- Statements in which nothing is refused are of seven kinds.
-use Rattle.std.proofs.Common.{◌≡◌, List, Option, refl, sym, ◌∙◌, ap, subst}
-use Rattle.mcy_base.specs.declared.span.Span.{Span}
-use Rattle.vlog_syntax.specs.declared.identifier.Identifier.{Identifier}
-use Rattle.vlog_syntax.specs.declared.expr.Expr.{Expr}
-use Rattle.vlog_syntax.specs.declared.stmt.Assignment.{Assignment}
-use Rattle.vlog_syntax.specs.declared.stmt.CaseItem.{CaseItem}
-use Rattle.vlog_syntax.specs.declared.stmt.CaseKind.{CaseKind}
-use Rattle.vlog_syntax.specs.declared.stmt.Stmt.{Stmt, roll-Stmt, out-Stmt, roll-out-Stmt}
-use Rattle.vlog_syntax.specs.declared.stmt.Stmt.TheVariants.{Null, SeqBlock, Conditional, Case, BlockingAssignment, NonblockingAssignment, rolls-Null, rolls-SeqBlock, rolls-Conditional, rolls-Case, rolls-BlockingAssignment, rolls-NonblockingAssignment, For, rolls-For}
+use Rattle.proc_muxes.proofs.Common.{◌≡◌, List, Option, refl, sym, ◌∙◌, ap, subst, Span, Identifier, Expr, Assignment, CaseItem, CaseKind, Stmt, roll-Stmt, out-Stmt, roll-out-Stmt, Null, SeqBlock}
+use Rattle.proc_muxes.proofs.Common.{Conditional, BlockingAssignment, NonblockingAssignment, rolls-Null, rolls-SeqBlock, rolls-Conditional, rolls-Case, rolls-BlockingAssignment}
+use Rattle.proc_muxes.proofs.Common.{rolls-NonblockingAssignment, For, rolls-For, fold-roll-Stmt, Names, InNames, Item, step_of, item_of, steps_of, IsClear}
+use Rattle.vlog_syntax.specs.declared.stmt.Stmt.TheVariants.{Case}
 use Rattle.vlog_syntax.specs.declared.stmt.Stmt.TheOpen as t
-use Rattle.vlog_syntax.specs.declared.stmt.Stmt.TheFolds.{fold-roll-Stmt}
-use Rattle.vlog_meaning.specs.Scopes.{Names}
-use Rattle.vlog_effects.specs.Steps.{InNames, Item, step_of, item_of, steps_of}
-use Rattle.proc_muxes.specs.Clear.{IsClear}
 
 -- Any other statement is refused.
 

@@ -1,39 +1,24 @@
 -- In every run of the builder, what it has for the variables of a process are the values of the process's effect.
-use Rattle.std.proofs.Common.{◌≡◌, ◌⊎◌, ℕ, ◌+◌, ◌-◌, ◌*◌, ◌^◌, ◌<◌, ◌≤◌, max, pos, Bool, true, false, not, ◌&&◌, ◌||◌, List, [], ◌∷◌, ◌++◌, take, drop, length, Option, Some, None, nat_eq, refl, sym, ◌∙◌, ap, subst, inl, inr, arith}
-use Rattle.std.specs.Prelude.{if◌then◌else◌}
-use Rattle.std.specs.List.{take-map, drop-map}
-use Rattle.std.proofs.lemmas.List.{length-take-le, length-drop}
-use Rattle.std.proofs.lemmas.Bool.Decides.{eqb_tells}
-use Rattle.mcy_base.specs.declared.span.Span.{Span}
-use Rattle.netlist_core.specs.declared.bit.Bit.{Bit}
-use Rattle.netlist_core.specs.Numbers.{digit, number}
-use Rattle.netlist_core.specs.Runs.{Nets, bit_value, values}
-use Rattle.vlog_syntax.specs.Places.{first_token}
-use Rattle.vlog_syntax.specs.declared.expr.Expr.{Expr}
-use Rattle.vlog_meaning.specs.declared.shapes.Shape.{Shape}
-use Rattle.vlog_meaning.specs.Scopes.{Names, Store, nothing}
-use Rattle.vlog_meaning.specs.Integers.{integer, extended}
-use Rattle.vlog_meaning.specs.Senses.{sense, own, index_of, assigned as assigned_shape}
-use Rattle.vlog_effects.specs.Expressions.{width_of, is_signed_of, value, is_constant, bits_of}
-use Rattle.vlog_effects.specs.LeftSides.{Select, Whole, Bit as BitOf, Range, Indexed, Part, Vector, parts_of, part_vector, part_width, width_by, parts_width, select_width, bits_from, places, written}
-use Rattle.vlog_effects.specs.Steps.{Assigning, Test, Selection, Done, Assign, Choose, Case, Refuse, Arms, Otherwise, Arm, dont_care}
-use Rattle.vlog_effects.specs.Effects.{Values, numbers, Update, updated, updated_all, State, settled, put, put_all, part_updates, updates_of, right_bits, assigned, holds, bit_same, agree, sized_bits, matches, effect, arm_effect, started, left_by}
-use Rattle.vlog_effects.specs.Latches.{Target, targets, arms_targets, part_targets, parts_targets}
+use Rattle.proc_muxes.proofs.Common.{◌≡◌, ◌⊎◌, ℕ, ◌+◌, ◌-◌, ◌*◌, ◌^◌, ◌<◌, ◌≤◌, max, pos, Bool, true, false, not, ◌&&◌, ◌||◌, List, [], ◌∷◌, ◌++◌, take, drop, length, Option, Some, None, nat_eq, refl}
+use Rattle.proc_muxes.proofs.Common.{sym, ◌∙◌, ap, subst, inl, inr, arith, if◌then◌else◌, take-map, drop-map, length-take-le, length-drop, eqb_tells, Span, Bit, digit, number, Nets, bit_value, values}
+use Rattle.proc_muxes.proofs.Common.{first_token, Expr, Shape, Names, Store, nothing, integer, extended, sense, own, index_of, assigned_shape, width_of, is_signed_of, value, is_constant, bits_of}
+use Rattle.proc_muxes.proofs.Common.{Select, Whole, BitOf, Range, Indexed, Part, Vector, parts_of, part_vector, part_width, width_by, parts_width, select_width, bits_from, places, written, Assigning}
+use Rattle.proc_muxes.proofs.Common.{Test, Selection, Done, Assign, Choose, Case, Refuse, Arms, Otherwise, Arm, dont_care, Values, numbers, Update, updated, updated_all, State, settled, put, put_all}
+use Rattle.proc_muxes.proofs.Common.{part_updates, updates_of, right_bits, holds, bit_same, agree, sized_bits, matches, effect, arm_effect, started, left_by, Target, targets, arms_targets}
+use Rattle.proc_muxes.proofs.Common.{part_targets, parts_targets, or-left, or-right, and-left, and-right, or-again, Building, RunsIn, Grows, AllBelow, fresh_bits, signal, store, index_width}
+use Rattle.proc_muxes.proofs.Common.{Evaluates, runs_before, store_same, below_later, grows_again, Work, held, with_held, Index, variable_index, HasPlainBase, BuildsIndex, BuildsIndices, PutsBits}
+use Rattle.proc_muxes.proofs.Common.{PutsPart, PutsParts, BuildsAssign, BuildsBit, BuildsTest, stands, distinct, choice_of, choices, Chooses, ChoosesAll, restored, kept, mattering, case_shape}
+use Rattle.proc_muxes.proofs.Common.{BuildsLabel, BuildsMore, BuildsMatch, BuildsArms, Shows, Conforms, Keeps, BuildingKeeps, BuildsTheEffect, LeavesTheEffect, or_end, exact_unsigned_eq}
+use Rattle.vlog_effects.specs.Effects.{assigned}
 use Rattle.vlog_effects.proofs.Alike.{value-constant}
-use Rattle.vlog_effects.proofs.Bools.{or-left, or-right, and-left, and-right, or-again}
-use Rattle.net_builder.specs.Building.{Building, RunsIn, Grows, AllBelow, fresh_bits, signal, store}
-use Rattle.expr_plans.specs.Made.{index_width}
-use Rattle.elab_expr.specs.Evaluates.{Evaluates}
 use Rattle.elab_expr.proofs.Bits.{number-fits}
-use Rattle.net_builder.proofs.Parts.{runs_before, store_same, below_later, grows_again}
-use Rattle.proc_muxes.specs.Builds.{Work, held, with_held, Index, variable_index, HasPlainBase, BuildsIndex, BuildsIndices, PutsBits, PutsPart, PutsParts, BuildsAssign, BuildsBit, BuildsTest, stands, distinct, choice_of, choices, Chooses, ChoosesAll, restored, kept, mattering, case_shape, BuildsLabel, BuildsMore, BuildsMatch, BuildsArms}
-use Rattle.proc_muxes.specs.Shows.{Shows, Conforms, Keeps}
-use Rattle.proc_muxes.specs.Laws.{BuildingKeeps, BuildsTheEffect, LeavesTheEffect}
-use Rattle.proc_muxes.proofs.Bits.{number-same, values-are, take-bits_of, length-bits_of, values-written, below-take, below-drop}
-use Rattle.proc_muxes.proofs.Frames.{bit_same-true, number-true, number-false, signal-with, signal-grown, nets-added, runs-before, runs-held, stands-append, stands-distinct, held-grown, signals-grown}
-use Rattle.proc_muxes.proofs.Keeping.{grows-index, grows-indices, grows-bit, grows-equal, grows-label, grows-more, grows-match, keeps-part, keeps-parts, assigned-grows, assigned-below, keeps-choices, keeps, keeps-arms}
+use Rattle.proc_muxes.proofs.Bits.{number-same, values-are, take-bits_of, values-written, below-take, below-drop}
+use Rattle.proc_muxes.proofs.Frames.{bit_same-true, number-false, signal-with, signal-grown, nets-added, runs-before, runs-held, stands-append, stands-distinct, held-grown, signals-grown}
+use Rattle.proc_muxes.proofs.Keeping.{grows-index, grows-indices, grows-bit, grows-equal, grows-label, grows-more, grows-match, keeps-part, keeps-parts, assigned-grows, assigned-below, keeps-choices}
+use Rattle.proc_muxes.proofs.Keeping.{keeps, keeps-arms}
 use Rattle.proc_muxes.proofs.Gates.{mux-values, ror-values, equal-values, lor-values, kept-length, kept-agree}
 use Rattle.proc_muxes.proofs.Puts.{put-values, index-value, shown-places}
+use Rattle.vlog_effects.proofs.Numbers.{length-bits_of}
 
 -- Updates.
 
@@ -306,12 +291,8 @@ label-bit nets c selector x a b test vals f long is runs same =
     let agrees : nat_eq (number (values nets (kept ignored selector))) (number (values nets (kept ignored bits))) ≡ agree ignored (values nets selector) (values nets bits) = kept-agree nets c.width ignored selector bits size long f.2.long in
     equal-values (mattering ignored) (kept ignored selector) (kept ignored bits) (first_token x) mid b test nets f.3 (kept-length ignored selector (size ∙ sym long)) (kept-length ignored bits (size ∙ sym f.2.long)) runs ∙ ap (λ (t : Bool). t ∷ []) (agrees ∙ rw (is, is_label) refl)
 
-or-false : (x : Bool) → (x || false) ≡ x
-or-false true = refl
-or-false false = refl
-
 more-bit : (nets : Nets) (c : Selection) (selector : List Bit) (xs : List Expr) (before : List Bit) (a b : Building) (test : List Bit) (vals : Values) (so_far : Bool) → BuildsMore c selector xs before a b test → length selector ≡ c.width → values nets selector ≡ sized_bits c vals c.selector → RunsIn b nets → store a nets ≡ numbers vals → values nets before ≡ so_far ∷ [] → values nets test ≡ (so_far || matches c vals xs) ∷ []
-more-bit nets c selector [] before a b test vals so_far f long is runs same e = ap (values nets) f.1 ∙ e ∙ ap (λ (t : Bool). t ∷ []) (sym (or-false so_far))
+more-bit nets c selector [] before a b test vals so_far f long is runs same e = ap (values nets) f.1 ∙ e ∙ ap (λ (t : Bool). t ∷ []) (sym (or_end so_far))
 more-bit nets c selector (x ∷ more) before a b test vals so_far f long is runs same e =
     let mid : Building = f.0 in
     let last : Building = f.1 in
@@ -332,7 +313,7 @@ match-bit nets c selector (x ∷ more) a b test vals f long is runs same =
 
 -- Muxes.
 
-number-turned : (a b : ℕ) → nat_eq a b ≡ nat_eq b a
+pub number-turned : (a b : ℕ) → nat_eq a b ≡ nat_eq b a
 number-turned a b = elim (eqb_tells a b) [
   | inl h ↦ elim (eqb_tells b a) [ inl g ↦ h.0 ∙ sym g.0 | inr g ↦ absurd (g.1 (sym h.1)) ]
   | inr h ↦ h.0 ∙ sym (number-false a b h.0)
@@ -367,7 +348,7 @@ mux-held nets at test y x a b c f runs is kind n =
     rw (held-grown a mid kind n f.3.0) (go (nat_eq x.number n && bit_same kind j) refl out) where
       go : (here : Bool) → (nat_eq x.number n && bit_same kind x.is_blocking) ≡ here → values nets (fresh_bits a.building.nets (length (held a x.is_blocking x.number))) ≡ (if c then values nets (held y x.is_blocking x.number) else values nets (held a x.is_blocking x.number)) → (if here then values nets (fresh_bits a.building.nets (length (held a x.is_blocking x.number))) else values nets (held a kind n)) ≡ (if here && c then values nets (held y kind n) else values nets (held a kind n))
       go true e out =
-          let same : x.number ≡ n = number-true x.number n (and-left (nat_eq x.number n) (bit_same kind x.is_blocking) e) in
+          let same : x.number ≡ n = exact_unsigned_eq x.number n (and-left (nat_eq x.number n) (bit_same kind x.is_blocking) e) in
           let alike : kind ≡ x.is_blocking = bit_same-true kind x.is_blocking (and-right (nat_eq x.number n) (bit_same kind x.is_blocking) e) in
           rw (alike, ← same) out
       go false e out = refl

@@ -1,46 +1,22 @@
 -- The turns of a loop, one after the other.
-use Rattle.std.proofs.Common.{◌≡◌, ℕ, zero, suc, ◌<◌, ◌≤◌, ◌+◌, ◌-◌, ◌%◌, ◌^◌, Bool, true, false, not, nat_eq, List, [], ◌∷◌, map, length, refl, sym, ap, ◌∙◌, subst, arith}
-use Rattle.std.specs.Prelude.{Option, None, Some, if◌then◌else◌}
-use Rattle.std.specs.Option.{option_map}
+use Rattle.proc_muxes.proofs.Common.{◌≡◌, ℕ, zero, suc, ◌<◌, ◌≤◌, ◌+◌, ◌-◌, ◌%◌, ◌^◌, Bool, true, false, not, nat_eq, List, [], ◌∷◌, length, refl, sym, ap, ◌∙◌, subst, arith, if◌then◌else◌}
+use Rattle.proc_muxes.proofs.Common.{option_map, Span, Identifier, Expr, out-LeftSide, Assignment, Stmt, For, Fault, Decl, Signal, Constant, Names, nothing, with_name, sense, assigned, power_le, told}
+use Rattle.proc_muxes.proofs.Common.{constant_of, constant_faults, Steps, Done, Refuse, Turns, Flaw, InNames, Loop, followed, refused, flaws_of, tested, stepped, step_flaws, turns, max_turns}
+use Rattle.proc_muxes.proofs.Common.{all_turns, looped, loop_steps, name_alone, steps_of, steps-loop, IsSignal, Building, IsShort, ElabError, more_short, step_refusals, turn_steps, next_steps}
+use Rattle.proc_muxes.proofs.Common.{next_value, AlikeBut, Stops, Change, Turn, Work, IsClear, IsReady, cells_of, joined, Built}
+use Rattle.std.specs.Prelude.{Option, None, Some}
 use Rattle.std.specs.Str.{bytes_eq}
-use Rattle.mcy_base.specs.declared.span.Span.{Span}
 use Rattle.mcy_base.specs.declared.word.Word.{Word}
-use Rattle.vlog_syntax.specs.declared.identifier.Identifier.{Identifier}
-use Rattle.vlog_syntax.specs.declared.expr.Expr.{Expr}
-use Rattle.vlog_syntax.specs.declared.left_side.LeftSide.{out-LeftSide}
 use Rattle.vlog_syntax.specs.declared.left_side.LeftSide.TheVariants as lv
-use Rattle.vlog_syntax.specs.declared.stmt.Assignment.{Assignment}
-use Rattle.vlog_syntax.specs.declared.stmt.Stmt.{Stmt}
-use Rattle.vlog_syntax.specs.declared.stmt.Stmt.TheVariants.{For}
 use Rattle.vlog_meaning.specs.declared.fault.ConstError.{ConstError}
-use Rattle.vlog_meaning.specs.declared.fault.Fault.{Fault}
-use Rattle.vlog_meaning.specs.declared.scope.Decl.{Decl}
-use Rattle.vlog_meaning.specs.declared.scope.Decl.TheVariants.{Signal, Constant}
 use Rattle.vlog_meaning.specs.Answers.{least, const_error}
-use Rattle.vlog_meaning.specs.Scopes.{Names, nothing, with_name}
-use Rattle.vlog_meaning.specs.Senses.{sense, assigned}
 use Rattle.std.proofs.Math.Nat.{mod-lt}
-use Rattle.vlog_meaning.proofs.Powers.{power_le}
-use Rattle.vlog_effects.specs.Expressions.{told, constant_of, constant_faults}
-use Rattle.vlog_effects.specs.Steps.{Steps, Done, Refuse, Turns, Flaw, InNames, Loop, followed, refused, flaws_of, tested, stepped, step_flaws, turns, max_turns, all_turns, looped, loop_steps, name_alone, steps_of}
-use Rattle.vlog_effects.proofs.Variants.{steps-loop}
 use Rattle.vlog_effects.proofs.Following.{followed-done, followed-again}
-use Rattle.net_builder.specs.Building.{IsSignal, Building}
-use Rattle.net_builder.specs.Refusals.{IsShort}
-use Rattle.net_builder.specs.declared.error.ElabError.{ElabError}
-use Rattle.elab_expr.proofs.Growing.{more_short}
 use Rattle.elab_proc.specs.declared.refusal.Refusal.{Refusal}
 use Rattle.elab_proc.specs.Order.{IsFirst}
-use Rattle.elab_proc.specs.Refusals.{step_refusals}
-use Rattle.elab_proc.specs.Turns.{turn_steps, next_steps, next_value, AlikeBut, Stops}
-use Rattle.elab_proc.proofs.TurnLemmas.{faults_at, flaw_told, constant_stands, constant_fails, loop_by_name, turns_first, turns_none, turns_next, turn_by_turn, test_ends, turn_goes, sized_with, alike_after}
-use Rattle.proc_muxes.specs.declared.change.Change.{Change}
-use Rattle.proc_muxes.specs.declared.statement.Turn.{Turn}
-use Rattle.proc_muxes.specs.Builds.{Work}
-use Rattle.proc_muxes.specs.Clear.{IsClear, IsReady}
-use Rattle.proc_muxes.specs.Counts.{cells_of}
+use Rattle.elab_proc.proofs.TurnLemmas.{faults_at, flaw_told, constant_stands, constant_fails, loop_by_name, turns_first, turns_none, turns_next, turn_by_turn, test_ends, turn_goes, sized_with}
+use Rattle.elab_proc.proofs.TurnLemmas.{alike_after}
 use Rattle.proc_muxes.specs.Turns.{AsksTurn, IsBuiltTurn}
-use Rattle.proc_muxes.specs.Working.{joined, Built}
 use Rattle.proc_muxes.proofs.Counting.{builds-counted}
 use Rattle.proc_muxes.proofs.Joining.{built-push}
 use Rattle.proc_muxes.proofs.Keeping.{keeps}

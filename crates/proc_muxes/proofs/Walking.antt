@@ -1,38 +1,16 @@
 -- What the code of statements has from one statement to the next.
-use Rattle.std.proofs.Common.{◌≡◌, ℕ, zero, suc, ◌+◌, ◌<◌, ◌≤◌, true, false, List, [], ◌∷◌, ◌++◌, map, take, length, get_or, Option, Some, None, refl, sym, ◌∙◌, ap, subst, arith}
-use Rattle.std.specs.Option.{option_map}
-use Rattle.std.proofs.lemmas.List.{map-append, take_more}
-use Rattle.mcy_base.specs.declared.span.Span.{Span}
-use Rattle.netlist_core.specs.declared.bit.Bit.{Bit}
-use Rattle.vlog_syntax.specs.declared.expr.Expr.{Expr}
-use Rattle.vlog_syntax.specs.declared.stmt.Stmt.{Stmt}
-use Rattle.vlog_syntax.specs.declared.identifier.Identifier.{Identifier}
-use Rattle.vlog_syntax.specs.declared.stmt.Assignment.{Assignment}
-use Rattle.vlog_syntax.specs.declared.stmt.Stmt.TheVariants.{Null, SeqBlock, Conditional, BlockingAssignment, NonblockingAssignment, rolls-Null, rolls-BlockingAssignment, rolls-NonblockingAssignment}
+use Rattle.proc_muxes.proofs.Common.{◌≡◌, ℕ, zero, suc, ◌+◌, ◌<◌, ◌≤◌, true, false, List, [], ◌∷◌, ◌++◌, map, take, length, get_or, Option, Some, None, refl, sym, ◌∙◌, ap, subst, arith, option_map}
+use Rattle.proc_muxes.proofs.Common.{map-append, take_more, Span, Bit, Expr, Stmt, Identifier, Assignment, Null, SeqBlock, Conditional, BlockingAssignment, NonblockingAssignment, rolls-Null}
+use Rattle.proc_muxes.proofs.Common.{fold-roll-Stmt, Decl, Signal, Constant, Names, parts_of, Assigning, Test, Steps, Done, Assign, Choose, Case, Refuse, followed, InNames, Item, in_turn, assigning}
+use Rattle.proc_muxes.proofs.Common.{step_of, item_of, steps_of, else_steps, Target, targets, parts_targets, steps-block, steps-conditional, IsSignal, IsShort, ElabError, more_short, Change, Work}
+use Rattle.proc_muxes.proofs.Common.{BuildsTest, CanAssign, IsClear, AreHeld, IsReady, assign_cells, cells_of, Keeps, StandsBelow, AreWide, joined, given_back, Built}
 use Rattle.vlog_syntax.specs.declared.stmt.Stmt.TheOpen as t
-use Rattle.vlog_syntax.specs.declared.stmt.Stmt.TheFolds.{fold-roll-Stmt}
-use Rattle.vlog_meaning.specs.declared.scope.Decl.{Decl}
-use Rattle.vlog_meaning.specs.declared.scope.Decl.TheVariants.{Signal, Constant}
-use Rattle.vlog_meaning.specs.Scopes.{Names}
-use Rattle.vlog_effects.specs.LeftSides.{parts_of}
-use Rattle.vlog_effects.specs.Steps.{Assigning, Test, Steps, Done, Assign, Choose, Case, Refuse, followed, InNames, Item, in_turn, assigning, step_of, item_of, steps_of, else_steps}
-use Rattle.vlog_effects.specs.Latches.{Target, targets, parts_targets}
-use Rattle.vlog_effects.proofs.Variants.{steps-block, steps-conditional}
-use Rattle.net_builder.specs.Building.{IsSignal}
-use Rattle.net_builder.specs.Refusals.{IsShort}
-use Rattle.net_builder.specs.declared.error.ElabError.{ElabError}
-use Rattle.elab_expr.proofs.Growing.{more_short}
-use Rattle.proc_muxes.specs.declared.change.Change.{Change}
-use Rattle.proc_muxes.specs.Builds.{Work, BuildsTest}
-use Rattle.proc_muxes.specs.Clear.{CanAssign, IsClear, AreHeld, IsReady}
-use Rattle.proc_muxes.specs.Counts.{assign_cells, cells_of}
-use Rattle.proc_muxes.specs.Shows.{Keeps, StandsBelow}
-use Rattle.proc_muxes.specs.Working.{AreWide, joined, given_back, Built}
 use Rattle.proc_muxes.proofs.Counting.{builds-counted}
 use Rattle.proc_muxes.proofs.Frames.{keeps-restored, keeps-widths}
 use Rattle.proc_muxes.proofs.Keeping.{keeps, keeps-test}
 use Rattle.proc_muxes.proofs.Joining.{targets-followed, in_turn-push, built-push}
 use Rattle.proc_muxes.proofs.Fitting.{back-is}
+use Rattle.vlog_effects.proofs.Running.{steps-blocking, steps-nonblocking}
 
 -- Parts of steps.
 
@@ -181,14 +159,6 @@ back-counted p t y w cs f e = ap (λ (u : Work). length u.building.cells) (back-
 steps-null : (at : Span) (names : Names) → steps_of (Null at) names ≡ Done
 steps-null at names =
     ap (λ (s : Stmt). steps_of s names) (sym (rolls-Null at)) ∙ ap (λ (f : InNames). f names) (fold-roll-Stmt InNames Item step_of item_of (t.Null at))
-
-steps-blocking : (x : Assignment) (names : Names) → steps_of (BlockingAssignment x) names ≡ Assign (assigning true x names) Done
-steps-blocking x names =
-    ap (λ (s : Stmt). steps_of s names) (sym (rolls-BlockingAssignment x)) ∙ ap (λ (f : InNames). f names) (fold-roll-Stmt InNames Item step_of item_of (t.BlockingAssignment x))
-
-steps-nonblocking : (x : Assignment) (names : Names) → steps_of (NonblockingAssignment x) names ≡ Assign (assigning false x names) Done
-steps-nonblocking x names =
-    ap (λ (s : Stmt). steps_of s names) (sym (rolls-NonblockingAssignment x)) ∙ ap (λ (f : InNames). f names) (fold-roll-Stmt InNames Item step_of item_of (t.NonblockingAssignment x))
 
 -- nothing changes
 pub null-built : (names : Names) (stmt : Stmt) (at : Span) (a : Work) (cs : List Change) → stmt ≡ Null at → cs ≡ [] → Built (steps_of stmt names) a a cs

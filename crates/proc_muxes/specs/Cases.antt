@@ -13,6 +13,8 @@ use Rattle.proc_muxes.specs.Builds.{Work, BuildsMatch}
 use Rattle.proc_muxes.specs.Clear.{AreClearLabels, IsReady}
 use Rattle.proc_muxes.specs.Working.{Built, all_have, given_back}
 
+-- For proofs alone.
+
 -- what the code of arms asks of each item with labels
 abbrev pub AreReadyItems : Names → Shape → List CaseItem → Work → Type 0
 AreReadyItems names size [] a = Unit {0}

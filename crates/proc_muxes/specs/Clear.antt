@@ -57,15 +57,6 @@ AreHeld a (x ∷ more) = IsHeld a x × AreHeld a more
 
 -- Labels of a case.
 
--- a label in which nothing is refused at the size of its case
-pub record IsClearLabel (names : Names) (size : Shape) (x : Expr) : Type 0 where
-  pub within : IsContext (sense names x).shape size
-  pub allowed : refusals names x size ≡ []
-
-abbrev pub AreClearLabels : Names → Shape → List Expr → Type 0
-AreClearLabels names size [] = Unit {0}
-AreClearLabels names size (x ∷ more) = IsClearLabel names size x × AreClearLabels names size more
-
 -- Statements in which nothing is refused.
 abbrev mutual
   pub IsClear : Steps → Type 0
@@ -86,3 +77,14 @@ pub record IsReady (names : Names) (steps : Steps) (a : Work) : Type 0 where
   pub signals : HasSignals names a.building
   pub stands : StandsBelow a
   pub sized : AreSized names
+
+-- For proofs alone.
+
+-- a label in which nothing is refused at the size of its case
+pub record IsClearLabel (names : Names) (size : Shape) (x : Expr) : Type 0 where
+  pub within : IsContext (sense names x).shape size
+  pub allowed : refusals names x size ≡ []
+
+abbrev pub AreClearLabels : Names → Shape → List Expr → Type 0
+AreClearLabels names size [] = Unit {0}
+AreClearLabels names size (x ∷ more) = IsClearLabel names size x × AreClearLabels names size more

@@ -32,15 +32,6 @@ abbrev pub puts_cells : Names → List Part → ℕ
 puts_cells names [] = 0
 puts_cells names (p ∷ ps) = put_cells (variable_index names p.select) + puts_cells names ps
 
--- the same of pieces
-abbrev pub place_cells : Place → ℕ
-place_cells (From bound) = 0
-place_cells (At index span) = 1
-
-abbrev pub pieces_cells : List Piece → ℕ
-pieces_cells [] = 0
-pieces_cells (x ∷ xs) = place_cells x.place + pieces_cells xs
-
 -- the right side's, those of the indices, and the puts
 abbrev pub assign_cells : Assigning → ℕ
 assign_cells s =
@@ -77,6 +68,17 @@ abbrev mutual
   pub arms_cells : Selection → Arms → ℕ
   arms_cells c (Otherwise body) = cells_of body
   arms_cells c (Arm at labels body others) = match_cells c labels + (cells_of body + (arms_cells c others + length (distinct (targets body ++ arms_targets others))))
+
+-- For proofs alone.
+
+-- the same of pieces
+abbrev pub place_cells : Place → ℕ
+place_cells (From bound) = 0
+place_cells (At index span) = 1
+
+abbrev pub pieces_cells : List Piece → ℕ
+pieces_cells [] = 0
+pieces_cells (x ∷ xs) = place_cells x.place + pieces_cells xs
 
 -- the labels and bodies of items
 abbrev pub items_cells : Selection → List Item → ℕ

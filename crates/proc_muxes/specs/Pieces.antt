@@ -16,6 +16,8 @@ use Rattle.proc_muxes.specs.declared.piece.Place.TheVariants.{From, At}
 use Rattle.proc_muxes.specs.Builds.{Work, held, Index, variable_index, HasPlainBase, BuildsIndex, BuildsIndices}
 use Rattle.proc_muxes.specs.Working.{AreBits}
 
+-- For proofs alone.
+
 -- the vector of a piece
 abbrev pub vector_at : Piece → Vector
 vector_at x = record { number = x.number; width = x.width; low = x.low }

@@ -8,6 +8,8 @@ use Rattle.proc_muxes.specs.Builds.{Work}
 use Rattle.proc_muxes.specs.Clear.{IsReady}
 use Rattle.proc_muxes.specs.Working.{Built}
 
+-- For proofs alone.
+
 -- No turn came, or the body of one was built, and another comes in which the loop's variable has this value.
 abbrev pub IsBuiltTurn : Loop → InNames → Names → Option Turn → Work → Work → Type 0
 IsBuiltTurn loop body here None a b = (b ≡ a) × ((later : ℕ → Steps) → turn_steps loop body here later ≡ Done)

@@ -79,16 +79,6 @@ abbrev pub AreWide : Work → List Target → Type 0
 AreWide a [] = Unit {0}
 AreWide a (x ∷ more) = (1 ≤ length (held a x.is_blocking x.number)) × (length (held a x.is_blocking x.number) ≤ 128) × AreWide a more
 
--- the bits of a port: from 1 to 128, which stand below this net
-abbrev pub AreBits : ℕ → List Bit → Type 0
-AreBits nets bits = (1 ≤ length bits) × (length bits ≤ 128) × AllBelow nets bits
-
--- bits were laid over those of a variable by a `put`, at an index
-abbrev pub PutsAt : Span → Bool → ℕ → List Bit → List Bit → Work → Work → Type 0
-PutsAt at is_blocking n index bits a b =
-    let width = length (held a is_blocking n) in
-    (mid : Building) × AddsCell Put (held a is_blocking n ∷ index ∷ bits ∷ []) width at a.building mid × (b ≡ with_held is_blocking n (fresh_bits a.building.nets width) (record a { building = mid }))
-
 -- changed variables have what they had before
 abbrev pub given_back : List Change → Work → Work
 given_back [] a = a
@@ -106,3 +96,15 @@ test_cells names x = length (made names x (sense names x).shape) + (if nat_lt 1 
 pub record Built (steps : Steps) (a b : Work) (changes : List Change) : Type 0 where
   pub builds : Builds steps a b
   pub changes_are : changes ≡ changes_of a (distinct (targets steps))
+
+-- For proofs alone.
+
+-- the bits of a port: from 1 to 128, which stand below this net
+abbrev pub AreBits : ℕ → List Bit → Type 0
+AreBits nets bits = (1 ≤ length bits) × (length bits ≤ 128) × AllBelow nets bits
+
+-- bits were laid over those of a variable by a `put`, at an index
+abbrev pub PutsAt : Span → Bool → ℕ → List Bit → List Bit → Work → Work → Type 0
+PutsAt at is_blocking n index bits a b =
+    let width = length (held a is_blocking n) in
+    (mid : Building) × AddsCell Put (held a is_blocking n ∷ index ∷ bits ∷ []) width at a.building mid × (b ≡ with_held is_blocking n (fresh_bits a.building.nets width) (record a { building = mid }))

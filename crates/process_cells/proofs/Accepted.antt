@@ -1,32 +1,12 @@
 -- Statements in which nothing is refused are ready to be built.
-use Rattle.std.proofs.Common.{◌≡◌, ℕ, Bool, true, false, List, [], ◌∷◌, ◌++◌, map, length, Option, Some, None, refl, ap, ◌∙◌, subst, arith}
-use Rattle.std.specs.Prelude.{if◌then◌else◌}
-use Rattle.std.specs.List.{flat_map}
-use Rattle.mcy_base.specs.declared.span.Span.{Span}
-use Rattle.vlog_syntax.specs.declared.expr.Expr.{Expr}
-use Rattle.vlog_meaning.specs.declared.fault.Cause.TheVariants.{DivideByZero}
-use Rattle.vlog_meaning.specs.declared.fault.Fault.{Fault}
-use Rattle.vlog_meaning.specs.declared.scope.Decl.{Decl}
-use Rattle.vlog_meaning.specs.declared.scope.Decl.TheVariants.{Signal, Constant}
-use Rattle.vlog_meaning.specs.declared.shapes.Shape.{Shape}
-use Rattle.vlog_meaning.specs.Scopes.{Names}
-use Rattle.vlog_meaning.specs.Senses.{sense, fault, own_zeros, assigned, or_else, is_empty}
-use Rattle.vlog_meaning.proofs.Blanks.{left_nil, right_nil, these_nil, those_nil}
-use Rattle.vlog_effects.specs.LeftSides.{Part, parts_of, part_vector, vector_of}
-use Rattle.vlog_effects.specs.Steps.{Assigning, Steps, Done, Assign, Choose, Case, Refuse, Arms, Otherwise, Arm, steps_of}
-use Rattle.vlog_effects.specs.Effects.{IsBlocking, AreBlocking}
-use Rattle.vlog_effects.specs.Latches.{Target, targets, arms_targets, part_targets, parts_targets}
+use Rattle.process_cells.proofs.Common.{◌≡◌, ℕ, Bool, true, false, List, [], ◌∷◌, ◌++◌, map, length, Option, Some, None, refl, ap, ◌∙◌, subst, arith, if◌then◌else◌, flat_map, Span, Expr, DivideByZero}
+use Rattle.process_cells.proofs.Common.{Fault, Decl, Signal, Constant, Shape, Names, sense, fault, own_zeros, or_else, is_empty, left_nil, right_nil, these_nil, those_nil, Part, parts_of, part_vector}
+use Rattle.process_cells.proofs.Common.{vector_of, Assigning, Steps, Done, Assign, Choose, Case, Refuse, Arms, Otherwise, Arm, steps_of, IsBlocking, AreBlocking, Target, targets, arms_targets}
+use Rattle.process_cells.proofs.Common.{part_targets, parts_targets, Building, IsSignal, signal, plan, same_form, wrong, divisions, sides_faults, part_refusals, kind_refusals, assign_refusals}
+use Rattle.process_cells.proofs.Common.{step_refusals, arm_refusals, own_faults, case_faults, case_refusals, Refusal, Wrong, right_faults, Work, held, CanAssign, AreHeld, IsClear, AreClear}
+use Rattle.process_cells.proofs.Common.{AcceptedAreReady, AllWait}
+use Rattle.vlog_meaning.specs.Senses.{assigned}
 use Rattle.vlog_effects.proofs.Sizes.{IsSized, AreSized, Sized, SizedArms, sized-steps}
-use Rattle.net_builder.specs.Building.{Building, IsSignal, signal}
-use Rattle.expr_plans.specs.Made.{plan}
-use Rattle.elab_proc.specs.Refusals.{same_form, wrong, divisions, sides_faults, part_refusals, kind_refusals, assign_refusals, step_refusals, arm_refusals, own_faults, case_faults, case_refusals}
-use Rattle.elab_proc.specs.declared.refusal.Refusal.{Refusal}
-use Rattle.elab_proc.specs.declared.refusal.Refusal.TheVariants.{Wrong}
-use Rattle.process_latches.specs.Sound.{right_faults}
-use Rattle.proc_muxes.specs.Builds.{Work, held}
-use Rattle.proc_muxes.specs.Clear.{CanAssign, AreHeld, IsClear, AreClear}
-use Rattle.process_cells.specs.Laws.{AcceptedAreReady}
-use Rattle.process_cells.specs.Ready.{AllWait}
 use Rattle.process_cells.proofs.Lefts.{NamesSignal, NameSignals, HaveForms, clear, nothing_wrong, left_writes}
 use Rattle.process_cells.proofs.Lists.{map_nil, some_known}
 

@@ -1,35 +1,16 @@
 -- What a process adds is the process.
-use Rattle.std.proofs.Common.{◌≡◌, ℕ, ◌<◌, ◌^◌, true, false, List, [], ◌∷◌, ◌++◌, map, length, Option, Some, None, sym, ap, ◌∙◌, subst}
-use Rattle.std.specs.List.{Contains}
-use Rattle.std.proofs.lemmas.List.{length-map}
-use Rattle.netlist_core.specs.declared.bit.Bit.{Bit}
+use Rattle.process_cells.proofs.Common.{◌≡◌, ℕ, ◌<◌, ◌^◌, true, false, List, [], ◌∷◌, ◌++◌, map, length, Option, Some, None, sym, ap, ◌∙◌, subst, Contains, length-map, Bit, Decl, Signal, Constant}
+use Rattle.process_cells.proofs.Common.{Names, Store, Values, HasWidth, HaveWidths, left_by, bits_of, value_of, targets, is_assigned, Steps, steps_of, number-small, length-bits_of, Building, RunsIn}
+use Rattle.process_cells.proofs.Common.{Grows, AreAdded, IsSignal, HasSignals, signal, store, AddsItem, Means, AllMean, IsSettled, combinational_add, cells_extend, Work, Builds, distinct, Keeps}
+use Rattle.process_cells.proofs.Common.{last_held, known-distinct, keeps, leaves-the-effect, CombinationalAreAdded, ClockedAreAdded, AllKnown, variables, bits_by, process_effect, given_own, blank}
+use Rattle.process_cells.proofs.Common.{last_seen, has_blocking, last_bits, has_first, has_more}
 use Rattle.netlist_core.specs.Numbers.{number}
 use Rattle.netlist_core.specs.Runs.{Nets, bit_value, values}
-use Rattle.vlog_meaning.specs.declared.scope.Decl.{Decl}
-use Rattle.vlog_meaning.specs.declared.scope.Decl.TheVariants.{Signal, Constant}
-use Rattle.vlog_meaning.specs.Scopes.{Names, Store}
-use Rattle.vlog_effects.specs.Effects.{Values, HasWidth, HaveWidths, left_by}
-use Rattle.vlog_effects.specs.Expressions.{bits_of, number as value_of}
-use Rattle.vlog_effects.specs.Latches.{targets, is_assigned}
-use Rattle.vlog_effects.specs.Steps.{Steps, steps_of}
-use Rattle.vlog_effects.proofs.Numbers.{number-small, length-bits_of}
 use Rattle.vlog_effects.proofs.Unlatched.{leaves-one}
-use Rattle.net_builder.specs.Building.{Building, RunsIn, Grows, AreAdded, IsSignal, HasSignals, signal, store}
 use Rattle.flat_runs.specs.Meanings.{Combinational, Clocked}
-use Rattle.flat_runs.specs.Adding.{AddsItem, Means}
-use Rattle.flat_runs.specs.Parts.{AllMean, IsSettled}
-use Rattle.flat_runs.proofs.Combining.{combinational_add}
-use Rattle.flat_runs.proofs.Growing.{cells_extend}
-use Rattle.flat_runs.proofs.Lists.{contains_first, contains_more}
 use Rattle.flat_runs.proofs.Storing.{clocked_add}
-use Rattle.proc_muxes.specs.Builds.{Work, Builds, distinct}
-use Rattle.proc_muxes.specs.Shows.{Adds, Keeps, last_held}
+use Rattle.proc_muxes.specs.Shows.{Adds}
 use Rattle.proc_muxes.proofs.Bits.{number-same, bits_of-number}
-use Rattle.proc_muxes.proofs.Frames.{known-distinct}
-use Rattle.proc_muxes.proofs.Keeping.{keeps}
-use Rattle.proc_muxes.proofs.Simulates.{leaves-the-effect}
-use Rattle.process_cells.specs.Laws.{CombinationalAreAdded, ClockedAreAdded}
-use Rattle.process_cells.specs.Processes.{AllKnown, variables, bits_by, process_effect, given_own, blank, last_seen, has_blocking, last_bits}
 use Rattle.process_cells.proofs.Blanking.{known_numbers, blank_count, blank_is, blank_wide, blank_other}
 use Rattle.process_cells.proofs.Assigned.{unassigned, blocking_conform, waits_at}
 use Rattle.process_cells.proofs.Widths.{left_wide}
@@ -71,7 +52,7 @@ have_widths names old x has wide name = wide_there old x (names name) wide (has 
 -- each of the variables has the bits of what is left to it
 all_mean : (old mid : Building) (ks : List ℕ) (bits : ℕ → List Bit) (effect : Store → Store) → ((k : ℕ) → Contains ks k → Means old mid (bits k) (λ s. effect s k)) → AllMean old mid ks (map bits ks) effect
 all_mean old mid [] bits effect h = tt
-all_mean old mid (k ∷ ks) bits effect h = (h k (contains_first ks k), all_mean old mid ks bits effect (λ j has. h j (contains_more ks k j has)))
+all_mean old mid (k ∷ ks) bits effect h = (h k (has_first ks k), all_mean old mid ks bits effect (λ j has. h j (has_more ks k j has)))
 
 -- what is left has as many bits as the signal
 fits : (old : Building) (steps : Steps) (s : Store) (k : ℕ) → process_effect old steps s k < 2 ^ length (signal old k)

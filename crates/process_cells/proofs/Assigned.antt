@@ -1,35 +1,19 @@
 -- Variables and the kinds of their assignments.
-use Rattle.std.proofs.Common.{◌≡◌, ℕ, Bool, true, false, not, ◌&&◌, ◌||◌, List, [], ◌∷◌, ◌++◌, map, nat_eq, Option, Some, None, refl, sym, ap, ◌∙◌, subst, inl, inr}
-use Rattle.std.specs.Prelude.{if◌then◌else◌}
-use Rattle.std.specs.List.{Contains}
-use Rattle.std.proofs.lemmas.Bool.{or_left, or_right}
-use Rattle.std.proofs.lemmas.Bool.Decides.{eqb_tells}
-use Rattle.vlog_meaning.specs.Scopes.{Names}
-use Rattle.vlog_effects.specs.LeftSides.{Part, Vector, parts_of, part_vector}
-use Rattle.vlog_effects.specs.Steps.{Steps, Done, Assign, Choose, Case, Refuse, Arms, Otherwise, Arm}
-use Rattle.vlog_effects.specs.Effects.{bit_same, IsBlocking, AreBlocking}
-use Rattle.vlog_effects.specs.Latches.{Target, targets, arms_targets, part_targets, parts_targets, is_assigned}
-use Rattle.flat_runs.proofs.Lists.{contains_none, contains_cases}
-use Rattle.proc_muxes.specs.Builds.{Work, distinct_after, stands}
-use Rattle.proc_muxes.specs.Shows.{Conforms}
-use Rattle.proc_muxes.proofs.Frames.{number-true}
-use Rattle.net_builder.specs.Building.{signal}
-use Rattle.process_cells.specs.Processes.{variables}
-use Rattle.process_cells.specs.Ready.{AllWait}
-
-pub same_number : (n : ℕ) → nat_eq n n ≡ true
-same_number n = elim (eqb_tells n n) [ inl t ↦ t.0 | inr t ↦ absurd (t.1 refl) ]
+use Rattle.process_cells.proofs.Common.{◌≡◌, ℕ, Bool, true, false, not, ◌&&◌, ◌||◌, List, [], ◌∷◌, ◌++◌, map, nat_eq, Option, Some, None, refl, sym, ap, ◌∙◌, subst, inl, inr, if◌then◌else◌, Contains}
+use Rattle.process_cells.proofs.Common.{or_left, or_right, Names, Part, Vector, parts_of, part_vector, Steps, Done, Assign, Choose, Case, Refuse, Arms, Otherwise, Arm, bit_same, IsBlocking}
+use Rattle.process_cells.proofs.Common.{AreBlocking, Target, targets, arms_targets, part_targets, parts_targets, is_assigned, Work, distinct_after, stands, Conforms, signal, variables, AllWait}
+use Rattle.process_cells.proofs.Common.{nat_eq_same, has_none, has_cases, exact_unsigned_eq}
 
 -- variables are assigned
 
 distinct_assigned : (seen ts : List Target) (n : ℕ) → Contains (map (λ x. x.number) (distinct_after seen ts)) n → is_assigned ts n ≡ true
-distinct_assigned seen [] n has = absurd (contains_none n has)
+distinct_assigned seen [] n has = absurd (has_none n has)
 distinct_assigned seen (x ∷ more) n has = go (stands x.is_blocking seen x.number) has (distinct_assigned seen more n) (distinct_assigned (x ∷ seen) more n)
   where
     go : (b : Bool) → Contains (map (λ y. y.number) (if b then distinct_after seen more else x ∷ distinct_after (x ∷ seen) more)) n → (Contains (map (λ y. y.number) (distinct_after seen more)) n → is_assigned more n ≡ true) → (Contains (map (λ y. y.number) (distinct_after (x ∷ seen) more)) n → is_assigned more n ≡ true) → (nat_eq n x.number || is_assigned more n) ≡ true
     go true h same_seen more_seen = or_right (nat_eq n x.number) (is_assigned more n) (same_seen h)
-    go false h same_seen more_seen = elim (contains_cases (map (λ y. y.number) (distinct_after (x ∷ seen) more)) x.number n h) [
-      | inl same ↦ or_left (nat_eq n x.number) (is_assigned more n) (ap (λ (m : ℕ). nat_eq n m) same ∙ same_number n)
+    go false h same_seen more_seen = elim (has_cases (map (λ y. y.number) (distinct_after (x ∷ seen) more)) x.number n h) [
+      | inl same ↦ or_left (nat_eq n x.number) (is_assigned more n) (ap (λ (m : ℕ). nat_eq n m) same ∙ nat_eq_same n)
       | inr later ↦ or_right (nat_eq n x.number) (is_assigned more n) (more_seen later)
     ]
 
@@ -72,6 +56,6 @@ waits_at a [] n h e = cc
 waits_at a (x ∷ more) n h e = go (nat_eq x.number n) refl x.is_blocking refl (waits_at a more n h.1)
   where
     go : (b : Bool) → nat_eq x.number n ≡ b → (c : Bool) → x.is_blocking ≡ c → (not (stands false more n) ≡ false → a.pending n ≡ signal a.building n) → a.pending n ≡ signal a.building n
-    go true same false kind rest = let P : ℕ → Type 0 = λ m. a.pending m ≡ signal a.building m in subst P (number-true x.number n same) (h.0 kind)
+    go true same false kind rest = let P : ℕ → Type 0 = λ m. a.pending m ≡ signal a.building m in subst P (exact_unsigned_eq x.number n same) (h.0 kind)
     go true same true kind rest = rest (let f : not ((nat_eq x.number n && bit_same false x.is_blocking) || stands false more n) ≡ false = e in rw (same, kind) at f)
     go false other c kind rest = rest (let f : not ((nat_eq x.number n && bit_same false x.is_blocking) || stands false more n) ≡ false = e in rw other at f)

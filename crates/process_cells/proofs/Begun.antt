@@ -1,24 +1,7 @@
 -- What stands before the statements of a combinational process are built.
-use Rattle.std.proofs.Common.{◌≡◌, ℕ, ◌<◌, Bool, true, false, List, [], ◌∷◌, length, Option, Some, None, sym, ap, ◌∙◌, subst, inl, inr}
-use Rattle.std.proofs.lemmas.Bool.Decides.{eqb_tells}
-use Rattle.netlist_core.specs.declared.bit.Bit.{Bit}
-use Rattle.vlog_syntax.specs.declared.stmt.Stmt.{Stmt}
-use Rattle.vlog_meaning.specs.declared.scope.Decl.{Decl}
-use Rattle.vlog_meaning.specs.declared.scope.Decl.TheVariants.{Signal, Constant}
-use Rattle.vlog_meaning.specs.Scopes.{Names}
-use Rattle.vlog_effects.specs.Steps.{steps_of}
-use Rattle.vlog_effects.specs.Latches.{Target, targets}
-use Rattle.elab_proc.specs.Refusals.{AreSized}
-use Rattle.net_builder.specs.Building.{Building, AllBelow, IsSignal, HasSignals, signal, with_signal}
-use Rattle.flat_runs.specs.Adding.{HasOwnNets}
-use Rattle.flat_runs.proofs.Signals.{ports_in}
-use Rattle.proc_muxes.specs.Builds.{Work, distinct}
-use Rattle.proc_muxes.specs.Clear.{AreHeld, IsReady}
-use Rattle.proc_muxes.specs.Shows.{Conforms, Known, StandsBelow}
-use Rattle.proc_muxes.specs.Working.{work}
-use Rattle.proc_muxes.proofs.Frames.{known-distinct, signal-with}
-use Rattle.process_cells.specs.Processes.{AllKnown, variables, zeros, blank}
-use Rattle.process_cells.specs.Ready.{AllWait, IsAccepted, HasPlaces}
+use Rattle.process_cells.proofs.Common.{◌≡◌, ℕ, ◌<◌, Bool, true, false, List, [], ◌∷◌, length, Option, Some, None, sym, ap, ◌∙◌, subst, inl, inr, eqb_tells, Bit, Stmt, Decl, Signal, Constant, Names}
+use Rattle.process_cells.proofs.Common.{steps_of, Target, targets, AreSized, Building, AllBelow, IsSignal, HasSignals, signal, with_signal, HasOwnNets, ports_in, Work, distinct, AreHeld, IsReady}
+use Rattle.process_cells.proofs.Common.{Conforms, Known, StandsBelow, work, known-distinct, signal-with, AllKnown, variables, zeros, blank, AllWait, IsAccepted, HasPlaces}
 use Rattle.process_cells.proofs.Accepted.{accepted_ready, accepted_blocking}
 use Rattle.process_cells.proofs.Assigned.{blocking_conform}
 use Rattle.process_cells.proofs.Blanking.{known_numbers, blank_count, blank_is, blank_wide}

@@ -1,17 +1,6 @@
 -- Variables that have zeros.
-use Rattle.std.proofs.Common.{◌≡◌, ℕ, ◌<◌, false, List, [], ◌∷◌, map, length, nat_eq, refl, sym, ap, ◌∙◌, subst, inl, inr}
-use Rattle.std.specs.Prelude.{if◌then◌else◌}
-use Rattle.std.specs.List.{Contains}
-use Rattle.std.proofs.lemmas.List.{length-map, length-set}
-use Rattle.std.proofs.lemmas.Bool.Decides.{eqb_tells}
-use Rattle.netlist_core.specs.declared.bit.Bit.{Bit}
-use Rattle.netlist_core.specs.declared.bit.Bit.TheVariants.{Fixed}
-use Rattle.net_builder.specs.Building.{Building, signal, with_signal}
-use Rattle.flat_runs.proofs.Lists.{contains_first, contains_more}
-use Rattle.vlog_effects.specs.Latches.{Target}
-use Rattle.proc_muxes.specs.Shows.{Known}
-use Rattle.proc_muxes.proofs.Frames.{signal-with}
-use Rattle.process_cells.specs.Processes.{AllKnown, zeros, blank}
+use Rattle.process_cells.proofs.Common.{◌≡◌, ℕ, ◌<◌, false, List, [], ◌∷◌, map, length, nat_eq, refl, sym, ap, ◌∙◌, subst, inl, inr, if◌then◌else◌, Contains, length-map, length-set, eqb_tells, Bit}
+use Rattle.process_cells.proofs.Common.{Fixed, Building, signal, with_signal, Target, Known, signal-with, AllKnown, zeros, blank, has_first, has_more}
 
 pub known_numbers : (count : ℕ) (ts : List Target) → Known count ts → AllKnown count (map (λ x. x.number) ts)
 known_numbers count [] h = tt
@@ -57,5 +46,5 @@ step_other k b n known other = signal-with b k n (zeros (signal b k)) known ∙ 
 pub blank_other : (ks : List ℕ) (b : Building) (n : ℕ) → AllKnown (length b.signals) ks → (Contains ks n → ⊥) → signal (blank ks b) n ≡ signal b n
 blank_other [] b n h other = refl
 blank_other (k ∷ ks) b n h other =
-    blank_other ks (step k b) n (known_step ks k b h.1) (λ has. other (contains_more ks k n has))
-    ∙ step_other k b n h.0 (λ same. other (subst (λ (m : ℕ). Contains (k ∷ ks) m) same (contains_first ks k)))
+    blank_other ks (step k b) n (known_step ks k b h.1) (λ has. other (has_more ks k n has))
+    ∙ step_other k b n h.0 (λ same. other (subst (λ (m : ℕ). Contains (k ∷ ks) m) same (has_first ks k)))

@@ -1,20 +1,8 @@
 -- The body of a process in which nothing is refused can be built.
-use Rattle.std.proofs.Common.{◌≡◌, Bool, false, not, List, [], ◌++◌, map, refl, sym, ap, ◌∙◌, subst}
-use Rattle.std.specs.Prelude.{Option, None, Some, if◌then◌else◌}
-use Rattle.mcy_base.specs.declared.span.Span.{Span}
-use Rattle.vlog_meaning.proofs.Blanks.{left_nil, right_nil}
-use Rattle.vlog_effects.specs.Latches.{Target, latch_of}
-use Rattle.vlog_effects.specs.Steps.{Steps, steps_of}
-use Rattle.elab_proc.specs.Refusals.{step_refusals}
-use Rattle.proc_muxes.specs.Builds.{distinct, stands}
-use Rattle.proc_muxes.specs.Shows.{Conforms}
+use Rattle.process_cells.proofs.Common.{◌≡◌, Bool, false, not, List, [], ◌++◌, map, refl, sym, ap, ◌∙◌, subst, if◌then◌else◌, Span, left_nil, right_nil, Target, latch_of, Steps, steps_of}
+use Rattle.process_cells.proofs.Common.{step_refusals, distinct, stands, Conforms, mixed_refusals, control_refusals, latch_refusal, latch_refusals, sound, writes, targets_are, AcceptedCanBeBuilt}
+use Rattle.std.specs.Prelude.{Option, None, Some}
 use Rattle.process_latches.specs.Latching.{latch_in}
-use Rattle.process_latches.specs.Mixed.{mixed_refusals}
-use Rattle.process_latches.specs.Refused.{control_refusals, latch_refusal, latch_refusals}
-use Rattle.process_latches.specs.Sound.{sound}
-use Rattle.process_latches.specs.Writes.{writes}
-use Rattle.process_latches.proofs.Latching.{targets_are}
-use Rattle.process_cells.specs.Laws.{AcceptedCanBeBuilt}
 use Rattle.process_cells.proofs.OneKind.{one_kind}
 use Rattle.process_cells.proofs.Sounding.{accepted_sound}
 

@@ -1,31 +1,14 @@
 -- What stands before the statements of a clocked process, after them, and after its registers.
-use Rattle.std.proofs.Common.{◌≡◌, ℕ, Bool, true, false, List, [], ◌∷◌, map, length, refl, sym, ap, ◌∙◌, subst}
-use Rattle.std.specs.Prelude.{if◌then◌else◌}
-use Rattle.std.specs.List.{Contains}
-use Rattle.netlist_core.specs.declared.bit.Bit.{Bit}
-use Rattle.netlist_core.specs.declared.port.Register.{Register}
-use Rattle.vlog_syntax.specs.declared.stmt.Stmt.{Stmt}
-use Rattle.vlog_meaning.specs.Scopes.{Names}
-use Rattle.vlog_effects.specs.Steps.{steps_of}
-use Rattle.vlog_effects.specs.Latches.{Target, targets}
+use Rattle.process_cells.proofs.Common.{◌≡◌, ℕ, Bool, true, false, List, [], ◌∷◌, map, length, refl, sym, ap, ◌∙◌, subst, if◌then◌else◌, Contains, Bit, Register, Stmt, Names, steps_of, Target}
+use Rattle.process_cells.proofs.Common.{targets, Building, Grows, AllBelow, PortsBelow, signal, declared_at, start_bits, Stands, AreRegistersBelow, AreStored, with_registers, cells_extend}
+use Rattle.process_cells.proofs.Common.{registers_stand, Change, Choice, Work, held, stands, distinct_after, distinct, choices, restored, IsReady, Conforms, Known, Keeps, StandsBelow, last_held}
+use Rattle.process_cells.proofs.Common.{pending_of, work, all_have, given_back, AllFit, Built, known-distinct, stands-distinct, nets-added, keeps-widths, stands-held, keeps, AllKnown, variables}
+use Rattle.process_cells.proofs.Common.{given_own, has_blocking, HasOneKind, last_bits, AreNamed, Clocks, all_waiting, CanStoreAll, Stores, AllWait, HasPlaces}
 use Rattle.net_builder.specs.declared.builder.Signal.{Signal as Declared}
-use Rattle.net_builder.specs.Building.{Building, Grows, AllBelow, PortsBelow, signal, declared_at, start_bits}
 use Rattle.net_builder.proofs.Parts.{below_later}
-use Rattle.flat_runs.specs.Parts.{StandsBelow as Stands, AreRegistersBelow, AreStored, with_registers}
-use Rattle.flat_runs.proofs.Growing.{cells_extend, registers_stand}
-use Rattle.proc_muxes.specs.declared.change.Change.{Change}
-use Rattle.proc_muxes.specs.declared.choice.Choice.{Choice}
-use Rattle.proc_muxes.specs.Builds.{Work, held, stands, distinct_after, distinct, choices, restored}
-use Rattle.proc_muxes.specs.Clear.{IsReady}
-use Rattle.proc_muxes.specs.Shows.{Conforms, Known, Keeps, StandsBelow, last_held}
-use Rattle.proc_muxes.specs.Working.{pending_of, work, changes_of, all_have, given_back, AllFit, Built}
 use Rattle.proc_muxes.proofs.Fitting.{changes-fit}
-use Rattle.proc_muxes.proofs.Frames.{known-distinct, stands-distinct, nets-added, keeps-widths, stands-held}
-use Rattle.proc_muxes.proofs.Keeping.{keeps}
-use Rattle.proc_muxes.proofs.Merging.{given-restores}
+use Rattle.proc_muxes.proofs.Merging.{given-restores, have-is}
 use Rattle.proc_muxes.proofs.Walking.{held-wide}
-use Rattle.process_cells.specs.Processes.{AllKnown, variables, given_own, has_blocking, HasOneKind, last_bits, AreNamed, Clocks, all_waiting, CanStoreAll, Stores}
-use Rattle.process_cells.specs.Ready.{AllWait, HasPlaces}
 use Rattle.process_cells.proofs.Accepted.{accepted_ready}
 use Rattle.process_cells.proofs.Adding.{grown}
 use Rattle.process_cells.proofs.Begun.{Given, own_below, held_known}
@@ -72,17 +55,13 @@ own_distinct a old seen (x ∷ more) h = go (stands x.is_blocking seen x.number)
     go true p q = p
     go false p q = (h.0, q)
 
-conforms_distinct : (kinds : ℕ → Bool) (seen ts : List Target) → Conforms kinds ts → Conforms kinds (distinct_after seen ts)
+pub conforms_distinct : (kinds : ℕ → Bool) (seen ts : List Target) → Conforms kinds ts → Conforms kinds (distinct_after seen ts)
 conforms_distinct kinds seen [] h = tt
 conforms_distinct kinds seen (x ∷ more) h = go (stands x.is_blocking seen x.number) (conforms_distinct kinds seen more h.1) (conforms_distinct kinds (x ∷ seen) more h.1)
   where
     go : (b : Bool) → Conforms kinds (distinct_after seen more) → Conforms kinds (distinct_after (x ∷ seen) more) → Conforms kinds (if b then distinct_after seen more else x ∷ distinct_after (x ∷ seen) more)
     go true p q = p
     go false p q = (h.0, q)
-
-have_is : (t y : Work) (ds : List Target) → all_have y (changes_of t ds) ≡ choices y ds
-have_is t y [] = refl
-have_is t y (x ∷ more) = ap (λ (l : List Choice). record { number = x.number; is_blocking = x.is_blocking; bits = held y x.is_blocking x.number } ∷ l) (have_is t y more)
 
 numbers_are : (y : Work) (ds : List Target) → map (λ x. x.number) (choices y ds) ≡ map (λ x. x.number) ds
 numbers_are y [] = refl
@@ -168,7 +147,7 @@ module _ (names : Names) (s : Stmt) (old : Building) (before waiting : List (Lis
       mid_is = ap (λ (w : Work). w.building) restored_is
 
       chosen : xs ≡ choices (work done after) (distinct (targets (steps_of s names)))
-      chosen = have ∙ ap (all_have (work done after)) built.changes_are ∙ have_is (work old waiting) (work done after) (distinct (targets (steps_of s names)))
+      chosen = have ∙ ap (all_have (work done after)) built.changes_are ∙ have-is (work old waiting) (work done after) (distinct (targets (steps_of s names)))
 
       pub can_after : CanStoreAll mid xs
       can_after =

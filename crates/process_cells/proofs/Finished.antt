@@ -1,31 +1,10 @@
 -- What stands after the statements of a combinational process were built, and after its variables were joined.
-use Rattle.std.proofs.Common.{◌≡◌, ◌⊎◌, ℕ, Bool, true, false, ◌&&◌, List, [], ◌∷◌, ◌++◌, map, length, nat_eq, refl, sym, ap, ◌∙◌, subst, inl, inr, ext_get_or}
-use Rattle.std.specs.List.{Contains}
-use Rattle.std.proofs.lemmas.Bool.{false≢true, or_cases}
-use Rattle.std.proofs.lemmas.Bool.Decides.{eqb_tells}
-use Rattle.netlist_core.specs.declared.bit.Bit.{Bit}
-use Rattle.vlog_syntax.specs.declared.stmt.Stmt.{Stmt}
-use Rattle.vlog_meaning.specs.Scopes.{Names}
-use Rattle.vlog_effects.specs.Effects.{bit_same}
-use Rattle.vlog_effects.specs.Steps.{steps_of}
-use Rattle.vlog_effects.specs.Latches.{Target, targets}
+use Rattle.process_cells.proofs.Common.{◌≡◌, ◌⊎◌, ℕ, Bool, true, false, ◌&&◌, List, [], ◌∷◌, ◌++◌, map, length, nat_eq, refl, sym, ap, ◌∙◌, subst, inl, inr, ext_get_or, Contains, false≢true, or_cases}
+use Rattle.process_cells.proofs.Common.{eqb_tells, Bit, Stmt, Names, bit_same, steps_of, Target, targets, Building, Grows, AllBelow, PortsBelow, signal, Stands, AllJoin, with_joints, join_of}
+use Rattle.process_cells.proofs.Common.{cells_extend, own_stays, Change, stands, distinct, Keeps, StandsBelow, work, Built, stands-distinct, keeps, Kept, AllKnown, variables, given_own, blank}
+use Rattle.process_cells.proofs.Common.{last_seen, all_kept, all_rejoined, AllReturn, Combines, HasPlaces, has_first, has_more, has_none, has_cases, exact_unsigned_eq}
 use Rattle.vlog_effects.proofs.Bools.{and-left}
-use Rattle.net_builder.specs.Building.{Building, Grows, AllBelow, PortsBelow, signal}
-use Rattle.flat_runs.specs.Parts.{StandsBelow as Stands, AllJoin, with_joints}
-use Rattle.flat_runs.proofs.Combining.{join_of}
-use Rattle.flat_runs.proofs.Growing.{cells_extend}
 use Rattle.flat_runs.proofs.Joining.{variables_stand}
-use Rattle.flat_runs.proofs.Lists.{contains_first, contains_more, contains_none, contains_cases}
-use Rattle.flat_runs.proofs.Signals.{own_stays}
-use Rattle.proc_muxes.specs.declared.change.Change.{Change}
-use Rattle.proc_muxes.specs.Builds.{stands, distinct}
-use Rattle.proc_muxes.specs.Shows.{Keeps, StandsBelow}
-use Rattle.proc_muxes.specs.Working.{work, Built}
-use Rattle.proc_muxes.proofs.Frames.{stands-distinct, number-true}
-use Rattle.proc_muxes.proofs.Keeping.{keeps}
-use Rattle.process_cells.specs.declared.kept.Kept.{Kept}
-use Rattle.process_cells.specs.Processes.{AllKnown, variables, given_own, blank, last_seen, all_kept, all_rejoined, AllReturn, Combines}
-use Rattle.process_cells.specs.Ready.{HasPlaces}
 use Rattle.process_cells.proofs.Accepted.{accepted_blocking}
 use Rattle.process_cells.proofs.Adding.{grown}
 use Rattle.process_cells.proofs.Begun.{Given, known_variables, blank_stands}
@@ -34,20 +13,20 @@ use Rattle.process_cells.proofs.Rejoining.{AreLong, Returned, returned}
 
 -- the number is among these, or not
 find : (ks : List ℕ) (n : ℕ) → Contains ks n ⊎ (Contains ks n → ⊥)
-find [] n = inr (λ has. contains_none n has)
+find [] n = inr (λ has. has_none n has)
 find (k ∷ ks) n = elim (eqb_tells k n) [
-  | inl e ↦ inl (subst (λ (m : ℕ). Contains (k ∷ ks) m) e.1 (contains_first ks k))
+  | inl e ↦ inl (subst (λ (m : ℕ). Contains (k ∷ ks) m) e.1 (has_first ks k))
   | inr e ↦ elim (find ks n) [
-    | inl has ↦ inl (contains_more ks k n has)
-    | inr not ↦ inr (λ has. elim (contains_cases ks k n has) [ inl same ↦ e.1 same | inr later ↦ not later ])
+    | inl has ↦ inl (has_more ks k n has)
+    | inr not ↦ inr (λ has. elim (has_cases ks k n has) [ inl same ↦ e.1 same | inr later ↦ not later ])
   ]
 ]
 
 pub stands_contains : (kind : Bool) (ts : List Target) (n : ℕ) → stands kind ts n ≡ true → Contains (map (λ x. x.number) ts) n
 stands_contains kind [] n e = absurd (false≢true e)
 stands_contains kind (x ∷ more) n e = elim (or_cases (nat_eq x.number n && bit_same kind x.is_blocking) (stands kind more n) e) [
-  | inl here ↦ subst (λ (m : ℕ). Contains (map (λ y. y.number) (x ∷ more)) m) (number-true x.number n (and-left (nat_eq x.number n) (bit_same kind x.is_blocking) here)) (contains_first (map (λ y. y.number) more) x.number)
-  | inr later ↦ contains_more (map (λ y. y.number) more) x.number n (stands_contains kind more n later)
+  | inl here ↦ subst (λ (m : ℕ). Contains (map (λ y. y.number) (x ∷ more)) m) (exact_unsigned_eq x.number n (and-left (nat_eq x.number n) (bit_same kind x.is_blocking) here)) (has_first (map (λ y. y.number) more) x.number)
+  | inr later ↦ has_more (map (λ y. y.number) more) x.number n (stands_contains kind more n later)
 ]
 
 not_standing : (ts : List Target) (n : ℕ) → (Contains (map (λ x. x.number) (distinct ts)) n → ⊥) → stands true ts n ≡ false

@@ -1,15 +1,7 @@
 -- The first assignments of variables, one after the other.
-use Rattle.std.proofs.Common.{◌≡◌, ℕ, ◌+◌, ◌<◌, ◌≤◌, Bool, true, false, ◌||◌, List, [], ◌∷◌, ◌++◌, map, take, length, get_or, refl, sym, ap, ◌∙◌, arith, append-nil}
-use Rattle.std.specs.Prelude.{if◌then◌else◌}
-use Rattle.std.proofs.lemmas.List.{map-append, take_more}
-use Rattle.std.proofs.Math.Seq.{take-length}
-use Rattle.vlog_effects.specs.Latches.{Target}
-use Rattle.proc_muxes.specs.Builds.{distinct, stands}
-use Rattle.proc_muxes.proofs.Frames.{stands-distinct}
+use Rattle.process_cells.proofs.Common.{◌≡◌, ℕ, ◌+◌, ◌<◌, ◌≤◌, Bool, true, false, ◌||◌, List, [], ◌∷◌, ◌++◌, map, take, length, get_or, refl, sym, ap, ◌∙◌, arith, append-nil, if◌then◌else◌}
+use Rattle.process_cells.proofs.Common.{map-append, take_more, take-length, Target, distinct, stands, stands-distinct, Write, target_of, with_write}
 use Rattle.proc_muxes.proofs.Joining.{seen_after, distinct-append, stands-after}
-use Rattle.process_latches.specs.declared.marks.Write.{Write}
-use Rattle.process_latches.specs.Writes.{target_of}
-use Rattle.process_cells.specs.Processes.{with_write}
 
 or_nothing : (b : Bool) → (b || false) ≡ b
 or_nothing true = refl

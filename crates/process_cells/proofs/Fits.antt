@@ -1,28 +1,15 @@
 -- A process in which nothing is refused can be built at the times at which it runs.
-use Rattle.std.proofs.Common.{◌≡◌, Bool, true, false, List, [], refl}
-use Rattle.std.specs.Prelude.{if◌then◌else◌}
-use Rattle.mcy_base.specs.declared.span.Span.{Span}
-use Rattle.vlog_syntax.specs.declared.feature.Feature.{Feature}
-use Rattle.vlog_syntax.specs.declared.feature.Feature.TheVariants.{Delay, ClockList}
-use Rattle.vlog_syntax.specs.declared.identifier.Identifier.{Identifier}
-use Rattle.vlog_syntax.specs.declared.item.Process.{Process}
+use Rattle.process_cells.proofs.Common.{◌≡◌, Bool, true, false, List, [], refl, if◌then◌else◌, Span, Feature, Delay, ClockList, Identifier, Process, CaseItem, Stmt, out-Stmt, Stmt-F, Names, steps_of}
+use Rattle.process_cells.proofs.Common.{Sensitivity, Once, Combinational, Clocked, Refused, is_toggle, of_always, of_kind, sensitivity, waiting_refusals, refusals_by, process_refusals, statement}
+use Rattle.process_cells.proofs.Common.{process_steps, IsFit, CanBeBuilt}
 use Rattle.vlog_syntax.specs.declared.item.ProcessKind.{ProcessKind}
 use Rattle.vlog_syntax.specs.declared.item.ProcessKind.TheVariants as k
-use Rattle.vlog_syntax.specs.declared.stmt.CaseItem.{CaseItem}
-use Rattle.vlog_syntax.specs.declared.stmt.Stmt.{Stmt, out-Stmt}
 use Rattle.vlog_syntax.specs.declared.stmt.Stmt.TheOpen as s
-use Rattle.vlog_syntax.specs.declared.stmt.Stmt.TheOpen.{Stmt-F}
-use Rattle.vlog_meaning.specs.Scopes.{Names}
-use Rattle.vlog_effects.specs.Steps.{steps_of}
-use Rattle.process_events.specs.Events.{Sensitivity, Once, Combinational, Clocked, Refused, is_toggle, of_always, of_kind, sensitivity}
-use Rattle.process_latches.specs.Refused.{waiting_refusals, refusals_by, process_refusals}
-use Rattle.process_cells.specs.Items.{statement, process_steps, IsFit}
-use Rattle.process_cells.specs.Processes.{CanBeBuilt}
 use Rattle.process_cells.proofs.Bodies.{can_be_built}
 
 -- A process that is run at changes or at rising edges waits for events at the head of its body.
 
-waits_not : (b : Bool) (x y : Span) (p q : Feature) (when : Sensitivity) → (if b then Refused x p else Refused y q) ≡ when → (at : Span) × (feature : Feature) × (Refused at feature ≡ when)
+pub waits_not : (b : Bool) (x y : Span) (p q : Feature) (when : Sensitivity) → (if b then Refused x p else Refused y q) ≡ when → (at : Span) × (feature : Feature) × (Refused at feature ≡ when)
 waits_not true x y p q when e = (x, p, e)
 waits_not false x y p q when e = (y, q, e)
 

@@ -1,21 +1,7 @@
 -- The own bits of variables wait.
-use Rattle.std.proofs.Common.{◌≡◌, ℕ, ◌<◌, Bool, true, false, ◌&&◌, List, [], ◌∷◌, length, nat_eq, refl, sym, ap, ◌∙◌, subst, inl, inr}
-use Rattle.std.specs.Prelude.{slice_set}
-use Rattle.std.specs.List.{Contains}
-use Rattle.std.proofs.lemmas.Bool.{or_left, or_right}
-use Rattle.std.proofs.lemmas.Bool.Decides.{eqb_tells}
-use Rattle.std.proofs.lemmas.List.{length-set}
-use Rattle.netlist_core.specs.declared.bit.Bit.{Bit}
-use Rattle.vlog_effects.specs.Effects.{bit_same}
-use Rattle.vlog_effects.specs.Latches.{Target}
-use Rattle.net_builder.specs.Building.{Building, AllBelow, signal}
-use Rattle.flat_runs.proofs.Lists.{contains_none, contains_cases}
-use Rattle.proc_muxes.specs.Builds.{stands}
-use Rattle.proc_muxes.specs.Working.{pending_of, work}
-use Rattle.proc_muxes.proofs.Frames.{signal-with}
-use Rattle.process_cells.specs.Processes.{AllKnown, all_waiting}
-use Rattle.process_cells.specs.Ready.{AllWait}
-use Rattle.process_cells.proofs.Assigned.{same_number}
+use Rattle.process_cells.proofs.Common.{◌≡◌, ℕ, ◌<◌, Bool, true, ◌&&◌, List, [], ◌∷◌, length, nat_eq, refl, sym, ap, ◌∙◌, subst, inl, inr, slice_set, Contains, or_left, or_right, eqb_tells}
+use Rattle.process_cells.proofs.Common.{length-set, Bit, bit_same, Target, Building, AllBelow, signal, stands, pending_of, work, signal-with, AllKnown, all_waiting, AllWait, bit-self, has_none}
+use Rattle.process_cells.proofs.Common.{has_cases, nat_eq_same}
 use Rattle.process_cells.proofs.Rejoining.{set_same, set_still}
 
 pub length_waiting : (b : Building) (ks : List ℕ) (w : List (List Bit)) → length (all_waiting b ks w) ≡ length w
@@ -35,8 +21,8 @@ still_waiting b (k ∷ ks) w n known e =
     still_waiting b ks (slice_set w k (signal b k)) n (known_later b ks k w known.1) (set_still (with_bits b w) k n (signal b k) (signal b n) known.0 (λ same. ap (signal b) same) e)
 
 pub own_waiting : (b : Building) (ks : List ℕ) (w : List (List Bit)) (n : ℕ) → AllKnown (length w) ks → Contains ks n → pending_of (all_waiting b ks w) n ≡ signal b n
-own_waiting b [] w n known has = absurd (contains_none n has)
-own_waiting b (k ∷ ks) w n known has = elim (contains_cases ks k n has) [
+own_waiting b [] w n known has = absurd (has_none n has)
+own_waiting b (k ∷ ks) w n known has = elim (has_cases ks k n has) [
   | inl same ↦ still_waiting b ks (slice_set w k (signal b k)) n (known_later b ks k w known.1) (set_same (with_bits b w) k n (signal b k) known.0 same ∙ ap (signal b) same)
   | inr later ↦ own_waiting b ks (slice_set w k (signal b k)) n (known_later b ks k w known.1) later
 ]
@@ -50,14 +36,9 @@ waiting_below b [] w limit known own h n = h n
 waiting_below b (k ∷ ks) w limit known own h n =
     waiting_below b ks (slice_set w k (signal b k)) limit (known_later b ks k w known.1) own (λ m. set_below b w k m limit known.0 (own k) (h m)) n
 
--- each target is one of the variables
-same_kind : (kind : Bool) → bit_same kind kind ≡ true
-same_kind true = refl
-same_kind false = refl
-
 pub all_wait : (b : Building) (ks : List ℕ) (w : List (List Bit)) (ts : List Target) → AllKnown (length w) ks → ((kind : Bool) (n : ℕ) → stands kind ts n ≡ true → Contains ks n) → AllWait (work b (all_waiting b ks w)) ts
 all_wait b ks w [] known h = tt
 all_wait b ks w (x ∷ more) known h = (
-  (λ e. own_waiting b ks w x.number known (h x.is_blocking x.number (or_left (nat_eq x.number x.number && bit_same x.is_blocking x.is_blocking) (stands x.is_blocking more x.number) (rw (same_number x.number, same_kind x.is_blocking) refl)))),
+  (λ e. own_waiting b ks w x.number known (h x.is_blocking x.number (or_left (nat_eq x.number x.number && bit_same x.is_blocking x.is_blocking) (stands x.is_blocking more x.number) (rw (nat_eq_same x.number, bit-self x.is_blocking) refl)))),
   all_wait b ks w more known (λ kind n e. h kind n (or_right (nat_eq x.number n && bit_same kind x.is_blocking) (stands kind more n) e)),
 )

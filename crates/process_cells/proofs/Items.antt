@@ -1,43 +1,21 @@
 -- What a process adds, part by part, and that it is all that is added.
-use Rattle.std.proofs.Common.{◌≡◌, ℕ, ◌+◌, Bool, List, [], ◌∷◌, ◌++◌, map, length, refl, sym, ap, ◌∙◌, subst, arith, length-append}
-use Rattle.std.specs.Prelude.{Option, None, Result, Ok, Err, IfOk, IfErr, OnOk}
+use Rattle.process_cells.proofs.Common.{◌≡◌, ℕ, ◌+◌, Bool, List, [], ◌∷◌, ◌++◌, map, length, refl, sym, ap, ◌∙◌, subst, arith, length-append, Result, Ok, Err, IfOk, IfErr, OnOk, Bit, Register, Span}
+use Rattle.process_cells.proofs.Common.{Feature, Identifier, Process, Stmt, out-Stmt, Names, Refusal, process_refusals, Steps, steps_of, ElabError, Building, Grows, signal, IsShort, HasOwnNets}
+use Rattle.process_cells.proofs.Common.{AddsItem, AreStored, own_stays, Write, sound, target_of, Sensitivity, Once, Combinational, Clocked, Refused, sensitivity, distinct, cells_of, keeps, variables}
+use Rattle.process_cells.proofs.Common.{process_effect, given_own, blank, last_bits, Combines, Clocks, written_numbers, widths_in, meaning_of, cells_by, process_cells, AddsMeaning, BuildsBy}
+use Rattle.process_cells.proofs.Common.{HasRegisters, Adds, AddsBy, AddsProcess, IsFit, statement, process_steps}
+use Rattle.std.specs.Prelude.{Option, None}
 use Rattle.std.proofs.lemmas.List.{append-nil}
-use Rattle.netlist_core.specs.declared.bit.Bit.{Bit}
 use Rattle.netlist_core.specs.declared.cell.Cell.{Cell}
-use Rattle.netlist_core.specs.declared.port.Register.{Register}
 use Rattle.mcy_base.specs.declared.kind.Kind.{Kind}
-use Rattle.mcy_base.specs.declared.span.Span.{Span}
-use Rattle.vlog_syntax.specs.declared.feature.Feature.{Feature}
-use Rattle.vlog_syntax.specs.declared.identifier.Identifier.{Identifier}
-use Rattle.vlog_syntax.specs.declared.item.Process.{Process}
-use Rattle.vlog_syntax.specs.declared.stmt.Stmt.{Stmt, out-Stmt}
-use Rattle.vlog_meaning.specs.Scopes.{Names}
-use Rattle.elab_proc.specs.declared.refusal.Refusal.{Refusal}
 use Rattle.elab_proc.specs.Order.{IsFirst}
-use Rattle.process_latches.specs.Refused.{process_refusals}
-use Rattle.vlog_effects.specs.Steps.{Steps, steps_of}
-use Rattle.net_builder.specs.declared.error.ElabError.{ElabError}
 use Rattle.net_builder.specs.declared.error.ElabError.TheVariants.{TooMany, Memory}
-use Rattle.net_builder.specs.Building.{Building, Grows, signal}
-use Rattle.net_builder.specs.Refusals.{IsShort}
 use Rattle.flat_runs.specs.Meanings.{Meaning}
 use Rattle.flat_runs.specs.Meanings as m
-use Rattle.flat_runs.specs.Adding.{HasOwnNets, AddsItem}
-use Rattle.flat_runs.specs.Parts.{AreStored}
-use Rattle.flat_runs.proofs.Signals.{own_stays}
 use Rattle.process_latches.specs.declared.marks.Marks.{Marks}
-use Rattle.process_latches.specs.declared.marks.Write.{Write}
 use Rattle.process_latches.specs.Marking.{AreBlank, Marked}
-use Rattle.process_latches.specs.Sound.{sound}
-use Rattle.process_latches.specs.Writes.{target_of}
 use Rattle.process_latches.proofs.Choosing.{own_marks}
-use Rattle.process_events.specs.Events.{Sensitivity, Once, Combinational, Clocked, Refused, sensitivity}
-use Rattle.proc_muxes.specs.Builds.{distinct}
-use Rattle.proc_muxes.specs.Counts.{cells_of}
 use Rattle.proc_muxes.proofs.Counting.{builds-counted}
-use Rattle.proc_muxes.proofs.Keeping.{keeps}
-use Rattle.process_cells.specs.Processes.{variables, process_effect, given_own, blank, last_bits, Combines, Clocks, written_numbers}
-use Rattle.process_cells.specs.Items.{widths_in, meaning_of, cells_by, process_cells, AddsMeaning, BuildsBy, HasRegisters, Adds, AddsBy, AddsProcess, IsFit, statement, process_steps}
 use Rattle.process_cells.proofs.Adding.{grown}
 use Rattle.process_cells.proofs.Blanking.{blank_is}
 use Rattle.process_cells.proofs.Fits.{process_fit}

@@ -1,27 +1,11 @@
 -- The labels of the arms of a case are its labels: where nothing is wrong in these, nothing is wrong in those.
-use Rattle.std.proofs.Common.{◌≡◌, ℕ, zero, suc, Bool, true, false, List, [], ◌∷◌, ◌++◌, map, Option, Some, None, refl, sym, ap, ◌∙◌, subst}
-use Rattle.std.specs.Prelude.{if◌then◌else◌}
-use Rattle.std.specs.List.{flat_map}
-use Rattle.mcy_base.specs.declared.span.Span.{Span}
-use Rattle.vlog_syntax.specs.declared.expr.Expr.{Expr}
-use Rattle.vlog_syntax.specs.declared.identifier.Identifier.{Identifier}
-use Rattle.vlog_syntax.specs.declared.left_side.LeftSide.{out-LeftSide}
-use Rattle.vlog_syntax.specs.declared.stmt.Assignment.{Assignment}
-use Rattle.vlog_syntax.specs.declared.stmt.CaseItem.{CaseItem}
-use Rattle.vlog_syntax.specs.declared.stmt.Stmt.{Stmt}
+use Rattle.process_cells.proofs.Common.{◌≡◌, ℕ, zero, suc, Bool, true, false, List, [], ◌∷◌, ◌++◌, map, Option, Some, None, refl, sym, ap, ◌∙◌, subst, if◌then◌else◌, flat_map, Span, Expr, Identifier}
+use Rattle.process_cells.proofs.Common.{out-LeftSide, Assignment, CaseItem, Stmt, Stmt-F, CaseItem-F, fold-roll-Stmt, fold-roll-CaseItem, ind-Stmt, map-Stmt, Fault, Decl, Signal, Constant, is_empty}
+use Rattle.process_cells.proofs.Common.{Names, left_nil, right_nil, constant_of, constant_faults, Flaw, Turns, Selection, Steps, Done, Assign, Choose, Case, Refuse, Arms, Otherwise, Arm, InNames}
+use Rattle.process_cells.proofs.Common.{Item, Loop, followed, in_turn, refused, turn_names, flaws_of, step_flaws, tested, stepped, turns, max_turns, all_turns, looped, loop_steps, name_alone, done_by}
+use Rattle.process_cells.proofs.Common.{default_of, labelled, labels_of, front, last_body, always, arms_of, names_all, chosen_arms, selection_of, step_of, item_of, steps_of, wrong}
 use Rattle.vlog_syntax.specs.declared.stmt.Stmt.TheOpen as t
-use Rattle.vlog_syntax.specs.declared.stmt.Stmt.TheOpen.{Stmt-F, CaseItem-F}
-use Rattle.vlog_syntax.specs.declared.stmt.Stmt.TheFolds.{fold-roll-Stmt, fold-roll-CaseItem, ind-Stmt, map-Stmt}
-use Rattle.vlog_meaning.specs.declared.fault.Fault.{Fault}
-use Rattle.vlog_meaning.specs.declared.scope.Decl.{Decl}
-use Rattle.vlog_meaning.specs.declared.scope.Decl.TheVariants.{Signal, Constant}
-use Rattle.vlog_meaning.specs.Senses.{is_empty}
-use Rattle.vlog_meaning.specs.Scopes.{Names}
-use Rattle.vlog_meaning.proofs.Blanks.{left_nil, right_nil}
-use Rattle.vlog_effects.specs.Expressions.{constant_of, constant_faults}
 use Rattle.vlog_effects.specs.Laws.{item_steps}
-use Rattle.vlog_effects.specs.Steps.{Flaw, Turns, Selection, Steps, Done, Assign, Choose, Case, Refuse, Arms, Otherwise, Arm, InNames, Item, Loop, followed, in_turn, refused, turn_names, flaws_of, step_flaws, tested, stepped, turns, max_turns, all_turns, looped, loop_steps, name_alone, done_by, default_of, labelled, labels_of, front, last_body, always, arms_of, names_all, chosen_arms, selection_of, step_of, item_of, steps_of}
-use Rattle.elab_proc.specs.Refusals.{wrong}
 
 -- nothing is wrong in expressions
 abbrev pub AreRight : Names → List Expr → Type 0

@@ -1,30 +1,14 @@
 -- What is added of a process is what it lays.
-use Rattle.std.proofs.Common.{◌≡◌, ℕ, suc, ◌+◌, Bool, true, false, not, List, [], ◌∷◌, ◌++◌, map, length, slice_get, Some, refl, sym, ◌∙◌, ap, subst, arith}
-use Rattle.std.specs.Prelude.{Option, None, Result, Ok, Err, IfOk}
-use Rattle.netlist_core.specs.declared.bit.Bit.{Bit}
-use Rattle.netlist_core.specs.declared.bit.Bit.TheVariants.{Net}
-use Rattle.netlist_core.specs.declared.port.Register.{Register}
-use Rattle.vlog_syntax.specs.declared.item.Process.{Process}
-use Rattle.vlog_meaning.specs.Scopes.{Names}
-use Rattle.vlog_effects.specs.Latches.{Target, targets}
-use Rattle.vlog_effects.specs.Steps.{Steps, word_of}
-use Rattle.net_builder.specs.declared.builder.Joint.{Joint}
-use Rattle.net_builder.specs.declared.error.ElabError.{ElabError}
-use Rattle.net_builder.specs.Building.{Building, signal, declared_at, start_bits}
-use Rattle.elab_proc.specs.declared.refusal.Refusal.{Refusal}
+use Rattle.process_cells.proofs.Common.{◌≡◌, ℕ, suc, ◌+◌, Bool, true, false, not, List, [], ◌∷◌, ◌++◌, map, length, slice_get, Some, refl, sym, ◌∙◌, ap, subst, arith, Result, Ok, Err, IfOk, Bit, Net}
+use Rattle.process_cells.proofs.Common.{Register, Process, Names, Target, targets, Steps, word_of, Joint, ElabError, Building, signal, declared_at, start_bits, Refusal, AreJoints, AllJoin, AreStored}
+use Rattle.process_cells.proofs.Common.{places_from, with_joints, with_registers, Sensitivity, Once, Combinational, Clocked, Refused, sensitivity, Work, held, stands, Conforms, last_held, Adds}
+use Rattle.process_cells.proofs.Common.{BuildsBy, process_steps, ProcessesAreLaid, variables, given_own, blank, last_seen, last_bits, has_blocking, AreNamed, joints_of, Combines, Clocks, AllWait}
+use Rattle.std.specs.Prelude.{Option, None}
 use Rattle.elab_proc.proofs.TurnLemmas.{word_again}
-use Rattle.flat_runs.specs.Parts.{AreJoints, AllJoin, AreStored, places_from, with_joints, with_registers}
-use Rattle.process_events.specs.Events.{Sensitivity, Once, Combinational, Clocked, Refused, sensitivity}
-use Rattle.proc_muxes.specs.Builds.{Work, held, stands}
 use Rattle.proc_muxes.specs.Laid.{lay_steps}
-use Rattle.proc_muxes.specs.Shows.{Conforms, last_held}
 use Rattle.proc_muxes.proofs.Alike.{Alike, Within, within-stands, steps-alike}
 use Rattle.proc_muxes.proofs.Laying.{steps-laid}
-use Rattle.process_cells.specs.Items.{Adds, BuildsBy, process_steps}
 use Rattle.process_cells.specs.Laid.{lay_joints, lay_register, lay_registers, lay_combinational, lay_clocked, lay_by, lay_accepted}
-use Rattle.process_cells.specs.Laws.{ProcessesAreLaid}
-use Rattle.process_cells.specs.Processes.{variables, given_own, blank, last_seen, last_bits, has_blocking, AreNamed, joints_of, Combines, Clocks}
-use Rattle.process_cells.specs.Ready.{AllWait}
 use Rattle.process_cells.proofs.Assigned.{blocking_conform}
 
 -- Joints.

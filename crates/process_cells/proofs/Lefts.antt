@@ -1,38 +1,21 @@
 -- A left side in which nothing is refused can be written.
-use Rattle.std.proofs.Common.{◌≡◌, ℕ, ◌+◌, ◌≤◌, Bool, true, false, ◌||◌, List, [], ◌∷◌, ◌++◌, map, Option, Some, None, refl, sym, ap, ◌∙◌, subst, inl, inr, arith}
-use Rattle.std.specs.List.{flat_map}
-use Rattle.std.specs.Prelude.{if◌then◌else◌, ◌==◌}
-use Rattle.std.proofs.lemmas.Bool.Decides.{eqb_tells}
+use Rattle.process_cells.proofs.Common.{◌≡◌, ℕ, ◌+◌, ◌≤◌, Bool, true, false, ◌||◌, List, [], ◌∷◌, ◌++◌, map, Option, Some, None, refl, sym, ap, ◌∙◌, subst, inl, inr, arith, flat_map, if◌then◌else◌}
+use Rattle.process_cells.proofs.Common.{◌==◌, eqb_tells, Span, Identifier, Expr, LeftSide, roll-LeftSide, DivideByZero, Fault, Decl, Signal, Constant, Shape, Names, decl_shape, Sense, sense, senses}
+use Rattle.process_cells.proofs.Common.{fault, or_else, own_zeros, is_empty, index_features, name_faults, total_width, all_faults, all_zeros, IsWhole, left_nil, right_nil, is_constant, Part, Select}
+use Rattle.process_cells.proofs.Common.{Whole, Range, Indexed, Vector, vector_of, part_vector, width_by, parts_width, parts_of, parts_step, select_width, concatenated, plan, plans, all_unsupported}
+use Rattle.process_cells.proofs.Common.{wrong, own_faults, same_form, form_step, name_refusals, part_refusals, part_form, Index, IsClearPart, CanWriteAll}
 use Rattle.std.proofs.lemmas.Grind.{flat_map-append}
-use Rattle.mcy_base.specs.declared.span.Span.{Span}
-use Rattle.vlog_syntax.specs.declared.identifier.Identifier.{Identifier}
-use Rattle.vlog_syntax.specs.declared.expr.Expr.{Expr}
 use Rattle.vlog_syntax.specs.declared.expr.Expr.TheVariants as v
-use Rattle.vlog_syntax.specs.declared.left_side.LeftSide.{LeftSide}
 use Rattle.vlog_syntax.specs.declared.left_side.LeftSide.TheOpen as l
 use Rattle.vlog_syntax.specs.declared.left_side.LeftSide.TheOpen.{LeftSide-F}
-use Rattle.vlog_syntax.specs.declared.left_side.LeftSide.TheViews.{roll-LeftSide}
 use Rattle.vlog_syntax.specs.declared.left_side.LeftSide.TheFolds.{fold-roll-LeftSide, ind-LeftSide, map-LeftSide}
-use Rattle.vlog_meaning.specs.declared.fault.Cause.TheVariants.{DivideByZero}
-use Rattle.vlog_meaning.specs.declared.fault.Fault.{Fault}
-use Rattle.vlog_meaning.specs.declared.scope.Decl.{Decl}
-use Rattle.vlog_meaning.specs.declared.scope.Decl.TheVariants.{Signal, Constant}
-use Rattle.vlog_meaning.specs.declared.shapes.Shape.{Shape}
 use Rattle.vlog_meaning.specs.Operators.{IsSized}
-use Rattle.vlog_meaning.specs.Scopes.{Names, decl_shape}
-use Rattle.vlog_meaning.specs.Senses.{Sense, sense, senses, fault, or_else, own_zeros, is_empty, index_features, name_faults, total_width, all_faults, all_zeros, IsWhole}
-use Rattle.vlog_meaning.proofs.Blanks.{left_nil, right_nil}
 use Rattle.vlog_meaning.proofs.Steps.{sense_name, sense_bit_select, sense_part_select, sense_indexed_part_select, sense_concatenation}
-use Rattle.vlog_meaning.proofs.Whole.{whole_index, whole_part, whole_indexed, whole_join, name_sized}
-use Rattle.vlog_effects.specs.Expressions.{is_constant}
-use Rattle.vlog_effects.specs.LeftSides.{Part, Select, Whole, Bit, Range, Indexed, Vector, vector_of, part_vector, width_by, parts_width, parts_of, parts_step, select_width, concatenated}
+use Rattle.vlog_meaning.proofs.Whole.{whole_index, whole_part, whole_indexed, whole_join, name_sized, says}
+use Rattle.vlog_effects.specs.LeftSides.{Bit}
 use Rattle.elab_expr.specs.Expressions.{refusals}
-use Rattle.expr_plans.specs.Made.{plan, plans, all_unsupported}
 use Rattle.elab_expr.proofs.Facts.{bit_parts, indexed_parts, indexed_one, join_supported}
-use Rattle.elab_proc.specs.Refusals.{wrong, own_faults, same_form, form_step, name_refusals, part_refusals}
-use Rattle.process_latches.specs.Sound.{part_form}
-use Rattle.proc_muxes.specs.Builds.{Index}
-use Rattle.proc_muxes.specs.Clear.{IsClearPart, CanWriteAll}
+use Rattle.proc_muxes.proofs.Piecing.{width-append}
 
 -- An expression in which nothing is refused.
 pub clear : (names : Names) (x : Expr) (c : Shape) → IsWhole names x → (plan names x).unsupported ≡ [] → (sense names x).zeros c ≡ [] → refusals names x c ≡ []
@@ -120,13 +103,10 @@ one names e p s width c form supported zeros =
 signal_in : (names : Names) (written : List Bool) (p : Part) → name_faults p.name.span (names p.name.name) ≡ [] → flat_map (part_refusals names written) (p ∷ []) ≡ [] → NamesSignal (names p.name.name)
 signal_in names written p e f = names_signal written p.name.span (names p.name.name) e (left_nil (part_refusals names written p) [] f)
 
-faults_in : (names : Names) (e : Expr) (s : Sense) → sense names e ≡ s → IsWhole names e → s.faults ≡ []
-faults_in names e s is whole = ap (λ (x : Sense). x.faults) (sym is) ∙ whole
-
 right_name : (names : Names) (written : List Bool) (n : Identifier) → IsRight names written (v.Name n) (record { name = n; select = Whole } ∷ [])
 right_name names written n whole supported zeros free =
     let p : Part = record { name = n; select = Whole } in
-    let s = signal_in names written p (faults_in names (v.Name n) _ (sense_name names n) whole) free in
+    let s = signal_in names written p (says names (v.Name n) _ (sense_name names n) whole) free in
     let some = s.sized.some in
     let narrow = s.sized.narrow in
     let same = s.width in
@@ -145,7 +125,7 @@ right_bit names written n at i whole supported zeros free =
     let p : Part = record { name = n; select = Bit at i } in
     let is = sense_bit_select names n at i in
     let x : Index = record { place = at; expr = i } in
-    let s = signal_in names written p (left_nil _ _ (faults_in names (v.BitSelect n at i) _ is whole)) free in
+    let s = signal_in names written p (left_nil _ _ (says names (v.BitSelect n at i) _ is whole)) free in
     let inner = whole_index names (v.BitSelect n at i) n at i refl whole in
     let parts = bit_parts names (v.BitSelect n at i) (sense names (v.BitSelect n at i)).shape n at i refl supported in
     let none : own_zeros (sense names i) ≡ [] = sym (ap own_zeros is) ∙ zeros in
@@ -163,7 +143,7 @@ right_range : (names : Names) (written : List Bool) (n : Identifier) (at : Span)
 right_range names written n at msb lsb whole supported zeros free =
     let p : Part = record { name = n; select = Range at msb lsb } in
     let is = sense_part_select names n at msb lsb in
-    let s = signal_in names written p (left_nil _ _ (faults_in names (v.PartSelect n at msb lsb) _ is whole)) free in
+    let s = signal_in names written p (left_nil _ _ (says names (v.PartSelect n at msb lsb) _ is whole)) free in
     let inner = whole_part names (v.PartSelect n at msb lsb) n at msb lsb refl whole in
     one names (v.PartSelect n at msb lsb) p s (ap (λ (x : Sense). x.shape.width) is) (record {
       vector = s.is;
@@ -180,7 +160,7 @@ right_indexed names written n at base count whole supported zeros free =
     let p : Part = record { name = n; select = Indexed at base count } in
     let is = sense_indexed_part_select names n at base count in
     let x : Index = record { place = at; expr = base } in
-    let s = signal_in names written p (left_nil _ _ (faults_in names (v.IndexedPartSelect n at base count) _ is whole)) free in
+    let s = signal_in names written p (left_nil _ _ (says names (v.IndexedPartSelect n at base count) _ is whole)) free in
     let inner = whole_indexed names (v.IndexedPartSelect n at base count) n at base count refl whole in
     let parts = indexed_parts names (v.IndexedPartSelect n at base count) (sense names (v.IndexedPartSelect n at base count)).shape n at base count refl supported in
     let none : own_zeros (sense names base) ≡ [] = sym (ap own_zeros is) ∙ zeros in
@@ -195,10 +175,6 @@ right_indexed names written n at base count whole supported zeros free =
     }) whole supported zeros
 
 -- Parts one after the other.
-
-width_both : (names : Names) (ps qs : List Part) → parts_width names (ps ++ qs) ≡ parts_width names ps + parts_width names qs
-width_both names [] qs = omega arith
-width_both names (p ∷ ps) qs = let rest = width_both names ps qs in omega (arith, rest)
 
 can_both : (names : Names) (ps qs : List Part) → CanWriteAll names ps → CanWriteAll names qs → CanWriteAll names (ps ++ qs)
 can_both names [] qs h k = k
@@ -240,7 +216,7 @@ joins names written (w ∷ ws) whole supported zeros free =
     let more : Join names (map same_form (lefts names written ws)) qs = joins names written ws (right_nil _ _ whole) (right_nil _ _ supported) (right_nil _ _ zeros) (right_nil (flat_map (part_refusals names written) ps) (flat_map (part_refusals names written) qs) apart) in
     let es : List Expr = map same_form (lefts names written ws) in
     record {
-      width = sum_width (sense names (same_form w.0)).shape.width (total_width (senses names es)) (parts_width names ps) (parts_width names qs) (parts_width names (ps ++ qs)) here.width more.width (width_both names ps qs);
+      width = sum_width (sense names (same_form w.0)).shape.width (total_width (senses names es)) (parts_width names ps) (parts_width names qs) (parts_width names (ps ++ qs)) here.width more.width (width-append names ps qs);
       can = can_both names ps qs here.can more.can;
       signals = signals_both names ps qs here.signals more.signals;
       forms = forms_both names ps qs here.forms more.forms;

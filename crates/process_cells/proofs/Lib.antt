@@ -1,3 +1,4 @@
+mod Common
 mod Lists
 mod Lefts
 pub mod Accepted
@@ -12,11 +13,11 @@ mod Storing
 mod Begun
 mod Finished
 mod Holding
-mod Clocking
+pub mod Clocking
 mod Firsts
 mod OneKind
 mod Bodies
 pub mod Fits
 pub mod Items
-mod Starting
+pub mod Starting
 pub mod Laying

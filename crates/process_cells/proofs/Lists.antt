@@ -1,6 +1,5 @@
 -- Lists of refusals that are empty, and a signal that has bits.
-use Rattle.std.proofs.Common.{◌≡◌, ℕ, zero, suc, ◌<◌, ◌≤◌, List, [], ◌∷◌, map, length, refl, arith}
-use Rattle.std.specs.Prelude.{slice_index_or}
+use Rattle.process_cells.proofs.Common.{◌≡◌, ℕ, zero, suc, ◌<◌, ◌≤◌, List, [], ◌∷◌, map, length, refl, arith, slice_index_or}
 
 pub map_nil : {A B : Type 0} → (f : A → B) (xs : List A) → map f xs ≡ [] → xs ≡ []
 map_nil f [] e = refl

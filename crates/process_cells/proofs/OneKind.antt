@@ -1,35 +1,17 @@
 -- Each variable has one kind of assignments in a process in which no second kind is refused.
-use Rattle.std.proofs.Common.{◌≡◌, ℕ, Bool, true, false, not, ◌&&◌, ◌||◌, List, [], ◌∷◌, map, refl, sym, ap, ◌∙◌, subst, nat_eq, arith}
-use Rattle.std.specs.Prelude.{◌==◌, nat_lt, Option, None, Some, if◌then◌else◌}
-use Rattle.std.specs.List.{flat_map}
-use Rattle.std.proofs.lemmas.Bool.Decides.{nat_tests}
-use Rattle.mcy_base.specs.declared.span.Span.{Span}
-use Rattle.vlog_meaning.proofs.Blanks.{left_nil, right_nil}
-use Rattle.vlog_effects.specs.Effects.{bit_same}
-use Rattle.vlog_effects.specs.Latches.{Target, stands_before}
-use Rattle.vlog_syntax.specs.declared.feature.Feature.TheVariants.{MixedAssign}
-use Rattle.elab_proc.specs.declared.refusal.Refusal.TheVariants.{Unsupported}
-use Rattle.proc_muxes.specs.Builds.{stands}
-use Rattle.proc_muxes.specs.Shows.{Conforms}
-use Rattle.process_latches.specs.declared.marks.Write.{Write}
-use Rattle.process_latches.specs.Mixed.{same_kind, lesser, first_place, mixed_after, mixed_at}
-use Rattle.process_latches.specs.Writes.{writes, target_of}
-use Rattle.process_latches.proofs.Latching.{targets_are}
-use Rattle.process_cells.specs.Laws.{MixedAreRefused}
+use Rattle.process_cells.proofs.Common.{◌≡◌, ℕ, Bool, true, false, not, ◌&&◌, ◌||◌, List, [], ◌∷◌, map, refl, sym, ap, ◌∙◌, subst, nat_eq, arith, ◌==◌, nat_lt, if◌then◌else◌, flat_map, nat_tests}
+use Rattle.process_cells.proofs.Common.{Span, left_nil, right_nil, bit_same, Target, MixedAssign, Unsupported, stands, Conforms, Write, same_kind, lesser, first_place, mixed_after, mixed_at, writes}
+use Rattle.process_cells.proofs.Common.{target_of, targets_are, MixedAreRefused, nat_eq_same, or_right, exact_unsigned_eq, bit-self, number-turned}
+use Rattle.std.specs.Prelude.{Option, None, Some}
+use Rattle.mcy_base.specs.Places.{stands_before}
 
 -- Places.
-
-turned : (a b : ℕ) → nat_eq a b ≡ nat_eq b a
-turned a b = grind (arith, nat_tests)
 
 less_not : (a b : ℕ) → nat_lt a b ≡ true → nat_lt b a ≡ true → ⊥
 less_not a b h k = grind (arith, nat_tests)
 
-same_number : (a b : ℕ) → nat_eq a b ≡ true → a ≡ b
-same_number a b e = grind (arith, nat_tests)
-
 lower : (a b : ℕ) (x y : Bool) → (if a == b then x else nat_lt a b) ≡ true → (if b == a then y else nat_lt b a) ≡ true → (x ≡ true) × (y ≡ true)
-lower a b x y h k = go (a == b) (b == a) (turned a b) h k
+lower a b x y h k = go (a == b) (b == a) (number-turned a b) h k
   where
     go : (e f : Bool) → e ≡ f → (if e then x else nat_lt a b) ≡ true → (if f then y else nat_lt b a) ≡ true → (x ≡ true) × (y ≡ true)
     go true true same h k = (h, k)
@@ -94,7 +76,7 @@ first_free all (w ∷ ws) free n b p e =
     here t =
         let is = both_true (nat_eq w.number n) (same_kind w.is_blocking b) t in
         let by_kind : mixed_after (first_place all w.number (not b)) w.first ≡ [] = subst (λ (k : Bool). mixed_after (first_place all w.number (not k)) w.first ≡ []) (kinds_same w.is_blocking b is.1) free.0 in
-        subst (λ (m : ℕ). mixed_after (first_place all m (not b)) w.first ≡ []) (same_number w.number n is.0) by_kind
+        subst (λ (m : ℕ). mixed_after (first_place all m (not b)) w.first ≡ []) (exact_unsigned_eq w.number n is.0) by_kind
 
 lesser_some : (first : Span) (o : Option Span) → (p : Span) × (lesser first o ≡ Some p)
 lesser_some first None = (first, refl)
@@ -135,19 +117,8 @@ not_mixed ws free n h k =
 
 -- Each target has the kind of its variable.
 
-number_true : (n : ℕ) → nat_eq n n ≡ true
-number_true n = grind (arith, nat_tests)
-
-kind_true : (b : Bool) → bit_same b b ≡ true
-kind_true true = refl
-kind_true false = refl
-
-or_right : (a b : Bool) → b ≡ true → (a || b) ≡ true
-or_right true b e = refl
-or_right false b e = e
-
 is_there : (b : Bool) (n : ℕ) (rest : Bool) → ((nat_eq n n && bit_same b b) || rest) ≡ true
-is_there b n rest = rw (number_true n, kind_true b) refl
+is_there b n rest = rw (nat_eq_same n, bit-self b) refl
 
 -- targets of which all are among those that have one kind
 conforms : (all xs : List Target) → ((n : ℕ) → stands true all n ≡ true → stands false all n ≡ true → ⊥) → ((b : Bool) (n : ℕ) → stands b xs n ≡ true → stands b all n ≡ true) → Conforms (λ n. not (stands false all n)) xs

@@ -1,20 +1,8 @@
 -- Variables get their own bits again, and these are joined to others.
-use Rattle.std.proofs.Common.{◌≡◌, ℕ, suc, ◌+◌, ◌<◌, List, [], ◌∷◌, ◌++◌, map, length, slice_get, Some, refl, sym, ap, ◌∙◌, subst, inl, inr, arith, append-nil, append_assoc}
-use Rattle.std.specs.List.{Contains}
-use Rattle.std.proofs.lemmas.List.{length-set}
-use Rattle.std.proofs.lemmas.Bool.Decides.{eqb_tells}
-use Rattle.netlist_core.specs.declared.bit.Bit.{Bit}
-use Rattle.netlist_core.specs.declared.bit.Bit.TheVariants.{Fixed, Net}
+use Rattle.process_cells.proofs.Common.{◌≡◌, ℕ, suc, ◌+◌, ◌<◌, List, [], ◌∷◌, ◌++◌, map, length, slice_get, Some, refl, sym, ap, ◌∙◌, subst, inl, inr, arith, append-nil, append_assoc, Contains}
+use Rattle.process_cells.proofs.Common.{length-set, eqb_tells, Bit, Fixed, Net, Joint, Building, signal, with_signal, HasOwnNets, AreJoints, AllJoin, places_from, whole, with_joints, nets_in}
+use Rattle.process_cells.proofs.Common.{signal-with, Kept, AllKnown, kept_of, all_kept, joints_of, rejoined, all_rejoined, AllReturn, has_none, has_cases}
 use Rattle.netlist_core.specs.Checked.{AllNets}
-use Rattle.net_builder.specs.declared.builder.Joint.{Joint}
-use Rattle.net_builder.specs.Building.{Building, signal, with_signal}
-use Rattle.flat_runs.specs.Adding.{HasOwnNets}
-use Rattle.flat_runs.specs.Parts.{AreJoints, AllJoin, places_from, whole, with_joints}
-use Rattle.flat_runs.proofs.Lists.{contains_none, contains_cases}
-use Rattle.flat_runs.proofs.Signals.{nets_in}
-use Rattle.proc_muxes.proofs.Frames.{signal-with}
-use Rattle.process_cells.specs.declared.kept.Kept.{Kept}
-use Rattle.process_cells.specs.Processes.{AllKnown, kept_of, all_kept, joints_of, rejoined, all_rejoined, AllReturn}
 
 -- the signal that was set, and all others
 pub set_same : (b : Building) (k n : ℕ) (bits : List Bit) → k < length b.signals → k ≡ n → signal (with_signal k bits b) n ≡ bits
@@ -80,7 +68,7 @@ returned old [] lasts c own known long = record {
   is = ap (λ (js : List Joint). record c { joints = js }) (sym (append-nil c.joints));
   join = refl;
   count = refl;
-  there = λ n has. absurd (contains_none n has);
+  there = λ n has. absurd (has_none n has);
   still = λ n same. same;
 }
 returned old (k ∷ ks) [] c own known long = absurd long
@@ -95,7 +83,7 @@ returned old (k ∷ ks) (last ∷ lasts) c own known long =
       is = rest.is ∙ ap (λ (js : List Joint). record c { joints = js; signals = d.signals }) (append_assoc c.joints first rest.joints);
       join = (first, rest.joints, refl, whole_joints old k last.bits own long.0, rest.join);
       count = rest.count ∙ count;
-      there = λ n has. elim (contains_cases ks k n has) [
+      there = λ n has. elim (has_cases ks k n has) [
         | inl same ↦ rest.still n (set_same c k n (signal old k) known.0 same ∙ ap (signal old) same)
         | inr later ↦ rest.there n later
       ];

@@ -1,23 +1,12 @@
 -- Statements in which nothing is refused are sound as they stand.
-use Rattle.std.proofs.Common.{◌≡◌, Bool, false, not, ◌||◌, List, [], ◌∷◌, ◌++◌, map, refl, sym, ap, ◌∙◌, subst}
-use Rattle.std.specs.Prelude.{if◌then◌else◌}
-use Rattle.std.specs.List.{flat_map}
-use Rattle.mcy_base.specs.declared.span.Span.{Span}
-use Rattle.vlog_syntax.specs.declared.expr.Expr.{Expr}
+use Rattle.process_cells.proofs.Common.{◌≡◌, Bool, false, not, ◌||◌, List, [], ◌∷◌, ◌++◌, map, refl, sym, ap, ◌∙◌, subst, if◌then◌else◌, flat_map, Span, Expr, Fault, Names, Bits, no_bits, either}
+use Rattle.process_cells.proofs.Common.{is_empty, left_nil, right_nil, these_nil, Whole, Part, parts_of, Target, targets, arms_targets, parts_targets, covered, arms_covered, early, arms_early}
+use Rattle.process_cells.proofs.Common.{all_missed, parts_cover, missed, parts_missed, all_of, some_bit, is_latch, latches, first_of, latch_of, Assigning, Test, Selection, Turns, Steps, Done, Assign}
+use Rattle.process_cells.proofs.Common.{Choose, Case, Refuse, Arms, Otherwise, Arm, followed, steps_of, same_form, wrong, own_faults, case_faults, case_refusals, assign_refusals, step_refusals}
+use Rattle.process_cells.proofs.Common.{arm_refusals, Refusal, Wrong, sound_by, sound_expr, sound_test, right_faults, sound_right, part_form, sound_part, sound_left, sound, sound_arms, has_stop}
+use Rattle.process_cells.proofs.Common.{arms_stop, AcceptedAreSound}
 use Rattle.vlog_syntax.specs.Places.{first_token}
-use Rattle.vlog_meaning.specs.declared.fault.Fault.{Fault}
-use Rattle.vlog_meaning.specs.Scopes.{Names}
-use Rattle.vlog_meaning.specs.Senses.{Bits, no_bits, either, is_empty}
-use Rattle.vlog_meaning.proofs.Blanks.{left_nil, right_nil, these_nil}
-use Rattle.vlog_effects.specs.LeftSides.{Whole, Part, parts_of}
-use Rattle.vlog_effects.specs.Latches.{Target, targets, arms_targets, parts_targets, covered, arms_covered, early, arms_early, all_missed, parts_cover, missed, parts_missed, all_of, some_bit, is_latch, latches, first_of, latch_of}
-use Rattle.vlog_effects.specs.Steps.{Assigning, Test, Selection, Turns, Steps, Done, Assign, Choose, Case, Refuse, Arms, Otherwise, Arm, followed, steps_of}
-use Rattle.elab_proc.specs.Refusals.{same_form, wrong, own_faults, case_faults, case_refusals, assign_refusals, step_refusals, arm_refusals}
-use Rattle.elab_proc.specs.declared.refusal.Refusal.{Refusal}
-use Rattle.elab_proc.specs.declared.refusal.Refusal.TheVariants.{Wrong}
-use Rattle.process_latches.specs.Sound.{sound_by, sound_expr, sound_test, right_faults, sound_right, part_form, sound_part, sound_left, sound, sound_arms, has_stop, arms_stop}
 use Rattle.process_latches.proofs.Fitting.{parts_sound}
-use Rattle.process_cells.specs.Laws.{AcceptedAreSound}
 use Rattle.process_cells.proofs.Accepted.{Accepts, accepts, arms_free, faults_free}
 use Rattle.process_cells.proofs.Labels.{AreRight, ArmsRight, HasOwnLabels, ArmsOwnLabels, own-steps}
 use Rattle.process_cells.proofs.Lefts.{HaveForms}

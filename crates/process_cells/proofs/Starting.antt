@@ -1,58 +1,31 @@
 -- Start values go on as the statements of an `initial` do.
-use Rattle.std.proofs.Common.{◌≡◌, ℕ, zero, suc, ◌+◌, ◌-◌, ◌*◌, ◌/◌, ◌%◌, ◌^◌, ◌<◌, max, ℤ, pos, ◌+ℤ◌, Bool, true, false, ◌&&◌, ◌==◌, List, [], ◌∷◌, ◌++◌, map, length, take, get_or, nat_eq, refl, sym, ap, ◌∙◌, subst, inl, inr, arith, length-append, append_assoc}
-use Rattle.std.specs.Prelude.{Option, None, Some, nat_lt, nat_le, slice_set, if◌then◌else◌}
-use Rattle.std.specs.List.{flat_map}
+use Rattle.process_cells.proofs.Common.{◌≡◌, ℕ, zero, suc, ◌+◌, ◌-◌, ◌*◌, ◌/◌, ◌%◌, ◌^◌, ◌<◌, max, ℤ, pos, ◌+ℤ◌, Bool, true, false, ◌&&◌, List, [], ◌∷◌, ◌++◌, map, length, take, get_or, nat_eq, refl}
+use Rattle.process_cells.proofs.Common.{sym, ap, ◌∙◌, subst, inl, inr, arith, length-append, append_assoc, nat_lt, nat_le, slice_set, if◌then◌else◌, flat_map, le-leb, lt-ltb, eqb_tells, nat_tests}
+use Rattle.process_cells.proofs.Common.{length-set, get_or-set_same, get_or-set_other, Span, Word, InitialForm, Identifier, Expr, LeftSide, out-LeftSide, Process, Assignment, CaseItem, Stmt, out-Stmt}
+use Rattle.process_cells.proofs.Common.{fold-CaseItem, fold_out-Stmt, map-Stmt, Stmt-F, Fault, Decl, Signal, Constant, Names, Store, nothing, sense, value_size, constant_faults_at, left_nil}
+use Rattle.process_cells.proofs.Common.{right_nil, Values, State, Update, numbers, updated, updated_all, put_all, part_updates, updates_of, right_bits, assigned, effect, started, left_by, number}
+use Rattle.process_cells.proofs.Common.{bits_of, value, width_of, is_signed_of, is_constant, Whole, Part, Vector, vector_of, parts_of, bit_at, bits_from, written, parts_width, width_by, Steps, Assign}
+use Rattle.process_cells.proofs.Common.{Done, InNames, assigning, in_turn, name_alone, steps_of, number-small, length-bits_of, length-written, Building, HasSignals, IsSignal, signal, start_bits}
+use Rattle.process_cells.proofs.Common.{with_start, Refusal, Wrong, Unsupported, Sensitivity, Once, sensitivity, value_refusals, start_refusals, assignment_refusals, initial_step, initial_item}
+use Rattle.process_cells.proofs.Common.{initial_refusals, initial_block, initial_assignment, refusals_by, process_refusals, widths_in, statement, process_steps, effect_of}
+use Rattle.std.proofs.Common.{◌==◌}
+use Rattle.std.specs.Prelude.{Option, None, Some}
 use Rattle.std.specs.Option.{option_map}
 use Rattle.std.proofs.Math.Arith.{mod-mul}
 use Rattle.std.proofs.Math.Nat.{pow-succ', mod-eq_of_lt}
-use Rattle.std.proofs.lemmas.Bool.{le-leb, lt-ltb}
-use Rattle.std.proofs.lemmas.Bool.Decides.{eqb_tells, nat_tests}
 use Rattle.std.proofs.lemmas.Int.{ints}
 use Rattle.std.proofs.lemmas.Nat.{pow_pos}
-use Rattle.std.proofs.lemmas.List.{length-set, get_or-set_same, get_or-set_other}
-use Rattle.mcy_base.specs.declared.span.Span.{Span}
-use Rattle.mcy_base.specs.declared.word.Word.{Word}
-use Rattle.vlog_syntax.specs.declared.feature.Feature.TheVariants.{InitialForm}
-use Rattle.vlog_syntax.specs.declared.identifier.Identifier.{Identifier}
-use Rattle.vlog_syntax.specs.declared.expr.Expr.{Expr}
-use Rattle.vlog_syntax.specs.declared.left_side.LeftSide.{LeftSide, out-LeftSide}
 use Rattle.vlog_syntax.specs.declared.left_side.LeftSide.TheVariants as lv
-use Rattle.vlog_syntax.specs.declared.item.Process.{Process}
-use Rattle.vlog_syntax.specs.declared.stmt.Assignment.{Assignment}
-use Rattle.vlog_syntax.specs.declared.stmt.CaseItem.{CaseItem}
-use Rattle.vlog_syntax.specs.declared.stmt.Stmt.{Stmt, out-Stmt}
-use Rattle.vlog_syntax.specs.declared.stmt.Stmt.TheFolds.{fold-CaseItem, fold_out-Stmt, map-Stmt}
 use Rattle.vlog_syntax.specs.declared.stmt.Stmt.TheVariants as sv
 use Rattle.vlog_syntax.specs.declared.stmt.Stmt.TheOpen as t
-use Rattle.vlog_syntax.specs.declared.stmt.Stmt.TheOpen.{Stmt-F}
 use Rattle.vlog_meaning.specs.declared.fault.ConstError.{ConstError}
-use Rattle.vlog_meaning.specs.declared.fault.Fault.{Fault}
-use Rattle.vlog_meaning.specs.declared.scope.Decl.{Decl}
-use Rattle.vlog_meaning.specs.declared.scope.Decl.TheVariants.{Signal, Constant}
 use Rattle.vlog_meaning.specs.Answers.{least, const_error}
-use Rattle.vlog_meaning.specs.Scopes.{Names, Store, nothing}
-use Rattle.vlog_meaning.specs.Senses.{sense, assigned as value_size, constant_faults_at}
 use Rattle.vlog_meaning.proofs.Refusals.{least_empty}
-use Rattle.vlog_meaning.proofs.Blanks.{left_nil, right_nil}
-use Rattle.vlog_effects.specs.Effects.{Values, State, Update, numbers, updated, updated_all, put_all, part_updates, updates_of, right_bits, assigned, effect, started, left_by}
-use Rattle.vlog_effects.specs.Expressions.{number, bits_of, value, width_of, is_signed_of, is_constant}
-use Rattle.vlog_effects.specs.LeftSides.{Whole, Part, Vector, vector_of, parts_of, bit_at, bits_from, written, parts_width, width_by}
-use Rattle.vlog_effects.specs.Steps.{Steps, Assign, Done, InNames, assigning, in_turn, name_alone, steps_of}
 use Rattle.vlog_effects.proofs.Alike.{value-constant}
 use Rattle.vlog_effects.proofs.Folds.{parts-name, out-name}
-use Rattle.vlog_effects.proofs.Numbers.{number-small, length-bits_of}
 use Rattle.vlog_effects.proofs.Running.{effects-follow, steps-blocking}
 use Rattle.vlog_effects.proofs.Variants.{steps-block}
-use Rattle.vlog_effects.proofs.Writing.{length-written}
-use Rattle.net_builder.specs.Building.{Building, HasSignals, IsSignal, signal, start_bits, with_start}
-use Rattle.elab_proc.specs.declared.refusal.Refusal.{Refusal}
-use Rattle.elab_proc.specs.declared.refusal.Refusal.TheVariants.{Wrong, Unsupported}
 use Rattle.elab_proc.proofs.Lists.{flat_take, map_take}
-use Rattle.process_events.specs.Events.{Sensitivity, Once, sensitivity}
-use Rattle.process_latches.specs.Initial.{value_refusals, start_refusals, assignment_refusals, initial_step, initial_item, initial_refusals}
-use Rattle.process_latches.proofs.Initials.{initial_block, initial_assignment}
-use Rattle.process_latches.specs.Refused.{refusals_by, process_refusals}
-use Rattle.process_cells.specs.Items.{widths_in, statement, process_steps, effect_of}
 use Rattle.process_cells.specs.Starts.{assigned_value, once, process_starts, StartsWith, SameButStarts, HasState, GoesOn}
 
 -- Only start values change.

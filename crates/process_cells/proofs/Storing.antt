@@ -1,15 +1,6 @@
 -- Registers of variables, one after the other.
-use Rattle.std.proofs.Common.{◌≡◌, ℕ, zero, suc, ◌+◌, ◌<◌, ◌≤◌, List, [], ◌∷◌, ◌++◌, map, take, length, get_or, sym, ap, ◌∙◌, subst, arith, append-nil, append_assoc}
-use Rattle.std.proofs.lemmas.List.{take_more}
-use Rattle.std.proofs.Math.Seq.{take-length}
-use Rattle.mcy_base.specs.declared.span.Span.{Span}
-use Rattle.mcy_base.specs.declared.word.Word.{Word}
-use Rattle.netlist_core.specs.declared.bit.Bit.{Bit}
-use Rattle.netlist_core.specs.declared.port.Register.{Register}
-use Rattle.net_builder.specs.Building.{Building, with_register, signal, declared_at, start_bits}
-use Rattle.flat_runs.specs.Parts.{AreStored}
-use Rattle.proc_muxes.specs.declared.choice.Choice.{Choice}
-use Rattle.process_cells.specs.Processes.{AreNamed, CanStore, CanStoreAll, StoresOne, Stores}
+use Rattle.process_cells.proofs.Common.{◌≡◌, ℕ, zero, suc, ◌+◌, ◌<◌, ◌≤◌, List, [], ◌∷◌, ◌++◌, map, take, length, get_or, sym, ap, ◌∙◌, subst, arith, append-nil, append_assoc, take_more, take-length}
+use Rattle.process_cells.proofs.Common.{Span, Word, Bit, Register, Building, with_register, signal, declared_at, start_bits, AreStored, Choice, AreNamed, CanStore, CanStoreAll, StoresOne, Stores}
 
 pub stores_none : (b : Building) (xs : List Choice) → xs ≡ [] → Stores b xs b
 stores_none b xs e =

@@ -1,10 +1,7 @@
 -- Signals keep their widths where statements are run.
-use Rattle.std.proofs.Common.{◌≡◌, ℕ, Bool, true, false, List, [], ◌∷◌, length, nat_eq, refl, ◌∙◌}
-use Rattle.std.specs.Prelude.{if◌then◌else◌}
-use Rattle.vlog_effects.specs.LeftSides.{parts_of, parts_width, written}
-use Rattle.vlog_effects.specs.Steps.{Selection, Steps, Done, Assign, Choose, Case, Refuse, Arms, Otherwise, Arm}
-use Rattle.vlog_effects.specs.Effects.{Values, Update, updated, updated_all, State, put, put_all, updates_of, right_bits, assigned, holds, matches, effect, arm_effect, started, left_by}
-use Rattle.vlog_effects.proofs.Writing.{length-written}
+use Rattle.process_cells.proofs.Common.{◌≡◌, ℕ, Bool, true, false, List, [], ◌∷◌, length, nat_eq, refl, ◌∙◌, if◌then◌else◌, parts_of, parts_width, written, Selection, Steps, Done, Assign, Choose}
+use Rattle.process_cells.proofs.Common.{Case, Refuse, Arms, Otherwise, Arm, Values, Update, updated, updated_all, State, put, put_all, updates_of, right_bits, assigned, holds, matches, effect}
+use Rattle.process_cells.proofs.Common.{arm_effect, started, left_by, length-written}
 
 updated_wide : (u : Update) (store : Values) (n : ℕ) → length (updated u store n) ≡ length (store n)
 updated_wide u store n = go (nat_eq n u.number)

@@ -106,7 +106,7 @@ abbrev pub Adds : Names → Process → Building → Building → Option Refusal
 Adds names p old new None = AddsProcess names p old new
 Adds names p old new (Some refusal) = new ≡ old
 
--- The code's parts.
+-- For proofs alone.
 
 -- what is asked where statements are built that are run at these times
 abbrev pub IsFit : Sensitivity → Steps → Type 0

@@ -37,11 +37,6 @@ process_effect b steps store = numbers (left_by steps (bits_by b store))
 abbrev pub given_own : Building → Work → Building
 given_own old b = record b.building { signals = old.signals }
 
--- the numbers are those of signals
-abbrev pub AllKnown : ℕ → List ℕ → Type 0
-AllKnown count [] = Unit {0}
-AllKnown count (k ∷ ks) = (k < count) × AllKnown count ks
-
 -- Combinational processes.
 
 abbrev pub zeros : List Bit → List Bit
@@ -113,7 +108,19 @@ pub record CanBeBuilt (is_combinational : Bool) (steps : Steps) : Type 0 where
   pub unlatched : is_combinational ≡ true → latch_of steps ≡ None
   pub numbers : written_numbers steps ≡ variables steps
 
--- The code's parts.
+-- the joints of own bits, which are nets, to others, the lowest first
+abbrev pub joints_of : List Bit → List Bit → List Joint
+joints_of [] lasts = []
+joints_of (own ∷ owns) [] = []
+joints_of (Fixed v ∷ owns) (x ∷ lasts) = joints_of owns lasts
+joints_of (Net n ∷ owns) (x ∷ lasts) = record { net = n; bit = x } ∷ joints_of owns lasts
+
+-- For proofs alone.
+
+-- the numbers are those of signals
+abbrev pub AllKnown : ℕ → List ℕ → Type 0
+AllKnown count [] = Unit {0}
+AllKnown count (k ∷ ks) = (k < count) × AllKnown count ks
 
 -- a variable with the bits that it has
 abbrev pub kept_of : Building → ℕ → Kept
@@ -121,13 +128,6 @@ kept_of b k = record { number = k; bits = signal b k }
 
 abbrev pub all_kept : Building → List ℕ → List Kept
 all_kept b ks = map (kept_of b) ks
-
--- the joints of own bits, which are nets, to others, the lowest first
-abbrev pub joints_of : List Bit → List Bit → List Joint
-joints_of [] lasts = []
-joints_of (own ∷ owns) [] = []
-joints_of (Fixed v ∷ owns) (x ∷ lasts) = joints_of owns lasts
-joints_of (Net n ∷ owns) (x ∷ lasts) = record { net = n; bit = x } ∷ joints_of owns lasts
 
 -- a variable has its own bits again, which are joined to those that it had last
 abbrev pub rejoined : Kept → List Bit → Building → Building

@@ -33,7 +33,7 @@ pub record StartsWith (b : Building) (store : Store) : Type 0 where
 abbrev pub SameButStarts : Building → Building → Type 0
 SameButStarts old new = new ≡ record old { starts = new.starts }
 
--- The code's parts.
+-- For proofs alone.
 
 -- The signals start with the values that statements have left so far, of which none waits.
 pub record HasState (b : Building) (s : State) : Type 0 where

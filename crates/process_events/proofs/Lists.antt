@@ -1,5 +1,5 @@
 -- Whether one of a list is so, one item more at a time.
-use Rattle.std.proofs.Common.{◌≡◌, zero, suc, ℕ, ◌<◌, Bool, true, false, ◌||◌, List, [], ◌∷◌, map, refl, sym, ap, ◌≤◌, ◌∙◌, arith, length, get_or, take}
+use Rattle.std.proofs.Common.{◌≡◌, zero, suc, ℕ, ◌<◌, Bool, true, false, ◌||◌, List, [], ◌∷◌, map, refl, ap, ◌≤◌, ◌∙◌, arith, length, get_or, take}
 use Rattle.vlog_syntax.specs.declared.stmt.EventExpression.{EventExpression}
 use Rattle.process_events.specs.Naming.{any_of}
 use Rattle.process_events.specs.Events.{is_edge, any_edge}

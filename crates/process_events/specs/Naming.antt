@@ -88,5 +88,7 @@ item_step name i = any_of (map (expr_reads name) i.labels) || i.body
 abbrev pub stmt_reads : List ℕ → Stmt → Bool
 stmt_reads name = fold-Stmt Bool Bool (stmt_step name) (item_step name)
 
+-- For proofs alone.
+
 abbrev pub item_reads : List ℕ → CaseItem → Bool
 item_reads name = fold-CaseItem Bool Bool (stmt_step name) (item_step name)

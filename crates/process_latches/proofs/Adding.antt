@@ -1,20 +1,6 @@
 -- Marks that are added one after the other.
-use Rattle.std.proofs.Common.{◌≡◌, ℕ, Bool, true, false, not, ◌&&◌, ◌||◌, List, [], ◌++◌, refl, sym, ap, ◌∙◌, append_assoc}
-use Rattle.std.proofs.lemmas.List.{append-nil}
-use Rattle.vlog_meaning.specs.Senses.{Bits, no_bits}
-use Rattle.signal_masks.specs.declared.mask.Mask.{Mask}
-use Rattle.signal_masks.specs.Masks.{bits_in}
-use Rattle.process_latches.specs.declared.marks.Marks.{Marks}
-use Rattle.process_latches.specs.declared.marks.Write.{Write}
-use Rattle.process_latches.specs.Marking.{Added, AreBlank}
-
-pub or_end : (b : Bool) → (b || false) ≡ b
-or_end true = refl
-or_end false = refl
-
-pub or_again : (a b c : Bool) → ((a || b) || c) ≡ (a || (b || c))
-or_again true b c = refl
-or_again false b c = refl
+use Rattle.process_latches.proofs.Common.{◌≡◌, ℕ, Bool, true, false, not, ◌&&◌, ◌||◌, List, [], ◌++◌, refl, sym, ap, ◌∙◌, append_assoc, append-nil, Bits, no_bits, Mask, bits_in, Marks, Write, Added}
+use Rattle.process_latches.proofs.Common.{AreBlank, or_end, or-again}
 
 pub and_end : (b : Bool) → (b && true) ≡ b
 and_end true = refl
@@ -60,10 +46,10 @@ added_as c e c2 e2 w w2 s s2 a b cs es ws ss x = record {
 -- these, and then those
 pub added_then : (c1 e1 c2 e2 : Bits) (w1 w2 : List Write) (s1 s2 : Bool) (a b d : Marks) → Added c1 e1 w1 s1 a b → Added c2 e2 w2 s2 b d → Added (λ n i. c1 n i || c2 n i) (λ n i. e1 n i || (e2 n i && not (c1 n i))) (w1 ++ w2) (s1 || s2) a d
 added_then c1 e1 c2 e2 w1 w2 s1 s2 a b d x y = record {
-  covered_is = λ n i. y.covered_is n i ∙ ap (λ (t : Bool). t || c2 n i) (x.covered_is n i) ∙ or_again (bits_in a.covered n i) (c1 n i) (c2 n i);
+  covered_is = λ n i. y.covered_is n i ∙ ap (λ (t : Bool). t || c2 n i) (x.covered_is n i) ∙ or-again (bits_in a.covered n i) (c1 n i) (c2 n i);
   early_is = λ n i. y.early_is n i ∙ ap (λ (t : Bool). t || (e2 n i && not (bits_in b.covered n i))) (x.early_is n i) ∙ ap (λ (t : Bool). (bits_in a.early n i || (e1 n i && not (bits_in a.covered n i))) || (e2 n i && not t)) (x.covered_is n i) ∙ early_then (bits_in a.early n i) (e1 n i) (bits_in a.covered n i) (e2 n i) (c1 n i);
   writes_are = y.writes_are ∙ ap (λ (l : List Write). l ++ w2) x.writes_are ∙ append_assoc a.writes.items w1 w2;
-  stopped_is = y.stopped_is ∙ ap (λ (t : Bool). t || s2) x.stopped_is ∙ or_again a.is_stopped s1 s2;
+  stopped_is = y.stopped_is ∙ ap (λ (t : Bool). t || s2) x.stopped_is ∙ or-again a.is_stopped s1 s2;
 }
 
 -- What is added to nothing.
@@ -82,23 +68,3 @@ module _ (c e : Bits) (w : List Write) (s : Bool) (a b : Marks) (blank : AreBlan
   own_stopped = x.stopped_is ∙ ap (λ (t : Bool). t || s) blank.stopped_is
 
 -- What the functions of marks add.
-
-or_true : (b : Bool) → true ≡ (b || true)
-or_true true = refl
-or_true false = refl
-
-pub stop_added : (a b : Marks) → b.covered ≡ a.covered → b.early ≡ a.early → b.writes.items ≡ a.writes.items → b.is_stopped ≡ true → Added no_bits no_bits [] true a b
-stop_added a b c e w s = record {
-  covered_is = λ n i. ap (λ (l : List Mask). bits_in l n i) c ∙ sym (or_end (bits_in a.covered n i));
-  early_is = λ n i. ap (λ (l : List Mask). bits_in l n i) e ∙ sym (or_end (bits_in a.early n i));
-  writes_are = w ∙ sym (append-nil a.writes.items);
-  stopped_is = s ∙ or_true a.is_stopped;
-}
-
-pub read_added : (r : Bits) (none some : List Mask) (a b : Marks) → none ≡ [] → ((n i : ℕ) → bits_in some n i ≡ (bits_in none n i || r n i)) → ((n i : ℕ) → bits_in b.early n i ≡ (bits_in a.early n i || (bits_in some n i && not (bits_in a.covered n i)))) → b.covered ≡ a.covered → b.writes.items ≡ a.writes.items → b.is_stopped ≡ a.is_stopped → Added no_bits r [] false a b
-read_added r none some a b empty read early c w s = record {
-  covered_is = λ n i. ap (λ (l : List Mask). bits_in l n i) c ∙ sym (or_end (bits_in a.covered n i));
-  early_is = λ n i. early n i ∙ ap (λ (t : Bool). bits_in a.early n i || (t && not (bits_in a.covered n i))) (read n i ∙ ap (λ (l : List Mask). bits_in l n i || r n i) empty);
-  writes_are = w ∙ sym (append-nil a.writes.items);
-  stopped_is = s ∙ sym (or_end a.is_stopped);
-}

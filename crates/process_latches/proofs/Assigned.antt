@@ -1,26 +1,8 @@
 -- An assignment from what it reads and what its left side assigns.
-use Rattle.std.proofs.Common.{◌≡◌, Bool, false, ◌||◌, List, [], ◌++◌, map, sym, ap, ◌∙◌, subst}
-use Rattle.std.proofs.lemmas.List.{append-nil}
-use Rattle.mcy_base.specs.declared.span.Span.{Span}
-use Rattle.vlog_syntax.specs.Places.{left_first_token}
-use Rattle.vlog_syntax.specs.declared.expr.Expr.{Expr}
-use Rattle.vlog_syntax.specs.declared.left_side.LeftSide.{LeftSide}
-use Rattle.vlog_syntax.specs.declared.stmt.Assignment.{Assignment}
-use Rattle.vlog_meaning.specs.Scopes.{Names}
-use Rattle.vlog_meaning.specs.Senses.{Bits, no_bits}
-use Rattle.vlog_effects.specs.LeftSides.{Part, parts_of}
-use Rattle.vlog_effects.specs.Latches.{parts_cover, parts_missed}
-use Rattle.vlog_effects.specs.Steps.{Assign, Done, assigning}
-use Rattle.elab_proc.specs.Refusals.{same_form}
-use Rattle.signal_masks.specs.Masks.{bits_in}
-use Rattle.signal_masks.specs.Parts.{indices_read}
-use Rattle.signal_masks.specs.declared.mask.Mask.{Mask}
-use Rattle.process_latches.specs.declared.marks.Marks.{Marks}
-use Rattle.process_latches.specs.declared.marks.Write.{Write}
-use Rattle.process_latches.specs.Marking.{AreBlank, Added, PartsAdded, Marked, reads_by}
-use Rattle.process_latches.specs.Sound.{sound, right_faults, sound_part, sound_left}
-use Rattle.process_latches.specs.Writes.{parts_writes}
-use Rattle.process_latches.proofs.Adding.{or_end, and_end, added_as, added_then}
+use Rattle.process_latches.proofs.Common.{◌≡◌, Bool, false, ◌||◌, List, [], ◌++◌, map, sym, ap, ◌∙◌, subst, append-nil, Span, left_first_token, Expr, LeftSide, Assignment, Names, Bits, no_bits, Part}
+use Rattle.process_latches.proofs.Common.{parts_of, parts_cover, parts_missed, Assign, Done, assigning, same_form, bits_in, indices_read, Mask, Marks, Write, AreBlank, Added, PartsAdded, Marked}
+use Rattle.process_latches.proofs.Common.{reads_by, sound, right_faults, sound_part, sound_left, parts_writes, or_end}
+use Rattle.process_latches.proofs.Adding.{and_end, added_as, added_then}
 use Rattle.process_latches.proofs.Fitting.{parts_sound, token_sound, missed_none}
 
 -- the right side, by its form and its value as they are at hand

@@ -1,23 +1,9 @@
 -- A case that is refused: the bodies of its items, one after the other.
-use Rattle.std.proofs.Common.{◌≡◌, zero, suc, ℕ, ◌<◌, ◌≤◌, Bool, true, false, List, [], ◌∷◌, map, refl, sym, ap, ◌∙◌, subst, length, get_or, drop}
-use Rattle.std.specs.Prelude.{Option, Some, if◌then◌else◌}
-use Rattle.std.specs.List.{flat_map}
-use Rattle.vlog_syntax.specs.declared.expr.Expr.{Expr}
-use Rattle.vlog_syntax.specs.Places.{first_token}
-use Rattle.vlog_syntax.specs.declared.stmt.CaseItem.{CaseItem}
-use Rattle.vlog_syntax.specs.declared.stmt.CaseKind.{CaseKind}
-use Rattle.vlog_meaning.specs.declared.fault.Fault.{Fault}
-use Rattle.vlog_meaning.specs.Answers.{least}
-use Rattle.vlog_meaning.specs.Scopes.{Names}
-use Rattle.vlog_meaning.specs.Senses.{no_bits, is_empty}
-use Rattle.vlog_effects.specs.Laws.{item_steps}
-use Rattle.vlog_effects.specs.Steps.{Steps, Done, Case, Refuse, Turns, Item, Selection, labelled, labels_of, chosen_arms, default_of, bodies_of, selection_of, case_steps, steps_of, followed}
-use Rattle.vlog_effects.proofs.Following.{followed-done}
-use Rattle.elab_proc.specs.Refusals.{case_faults, labels_in, body_in}
+use Rattle.process_latches.proofs.Common.{◌≡◌, zero, suc, ℕ, ◌<◌, ◌≤◌, Bool, true, false, List, [], ◌∷◌, map, refl, sym, ap, ◌∙◌, subst, length, get_or, drop, Option, Some, if◌then◌else◌, flat_map}
+use Rattle.process_latches.proofs.Common.{Expr, first_token, CaseItem, CaseKind, Fault, least, Names, no_bits, is_empty, item_steps, Steps, Done, Case, Refuse, Turns, Item, Selection, labelled}
+use Rattle.process_latches.proofs.Common.{labels_of, chosen_arms, default_of, bodies_of, selection_of, case_steps, steps_of, followed, followed-done, case_faults, labels_in, body_in, Marks, Added}
+use Rattle.process_latches.proofs.Common.{Marked, sound_expr, sound, sound_arms}
 use Rattle.elab_proc.proofs.StepLemmas.{labels_same, item_is, drop_one, drop_all}
-use Rattle.process_latches.specs.declared.marks.Marks.{Marks}
-use Rattle.process_latches.specs.Marking.{Added, Marked}
-use Rattle.process_latches.specs.Sound.{sound_expr, sound, sound_arms}
 use Rattle.process_latches.proofs.Adding.{added_as}
 use Rattle.process_latches.proofs.Following.{marked_followed, marked_then}
 
@@ -42,7 +28,7 @@ bodies_on names here is k x old now new at h same c m end y =
 pub bodies_end : (names : Names) (is : List CaseItem) (k : ℕ) (old now : Marks) → length is ≤ k → Continues names is k old now → Marked (sound Done) now now → Marked (sound (bodies_of (map item_steps is) names)) old now
 bodies_end names is k old now h c none = c now (subst (λ (xs : List CaseItem). Marked (sound (bodies_of (map item_steps xs) names)) now now) (sym (drop_all false [] is k h)) none)
 
-some_faults : (fs : List Fault) (f : Fault) → Some f ≡ least fs → is_empty fs ≡ false
+pub some_faults : (fs : List Fault) (f : Fault) → Some f ≡ least fs → is_empty fs ≡ false
 unfolding least
 some_faults [] f is = cc
 some_faults (g ∷ more) f is = refl

@@ -1,38 +1,15 @@
 -- Choices and cases, from the marks of their parts.
-use Rattle.std.proofs.Common.{◌≡◌, zero, suc, ℕ, ◌<◌, Bool, true, false, ◌&&◌, ◌||◌, List, [], ◌∷◌, ◌++◌, map, refl, sym, ap, ◌∙◌, subst, arith, length, get_or, take, append_assoc}
-use Rattle.std.specs.Prelude.{Option, None, Some, if◌then◌else◌}
-use Rattle.std.specs.List.{flat_map}
-use Rattle.std.specs.Option.{option_map}
-use Rattle.std.proofs.lemmas.List.{append-nil}
-use Rattle.mcy_base.specs.declared.span.Span.{Span}
-use Rattle.vlog_syntax.specs.declared.expr.Expr.{Expr}
-use Rattle.vlog_syntax.specs.Places.{first_token}
-use Rattle.vlog_syntax.specs.declared.stmt.CaseItem.{CaseItem, out-CaseItem}
-use Rattle.vlog_syntax.specs.declared.stmt.CaseKind.{CaseKind}
-use Rattle.vlog_syntax.specs.declared.stmt.Stmt.TheFolds.{fold_out-CaseItem}
-use Rattle.vlog_syntax.specs.declared.stmt.Stmt.{Stmt}
-use Rattle.vlog_meaning.specs.declared.fault.Fault.{Fault}
-use Rattle.vlog_meaning.specs.Answers.{least}
-use Rattle.vlog_meaning.specs.Scopes.{Names}
-use Rattle.vlog_meaning.specs.Senses.{Bits, no_bits, is_empty}
-use Rattle.vlog_meaning.proofs.Firsts.{least_none}
-use Rattle.vlog_effects.specs.Laws.{item_steps}
-use Rattle.vlog_effects.specs.Latches.{covered, early, all_missed, arms_covered, arms_early}
-use Rattle.vlog_effects.specs.Steps.{Steps, Done, Choose, Case, Refuse, Turns, Arms, InNames, Item, Selection, labelled, labels_of, chosen_arms, default_of, done_by, bodies_of, selection_of, case_steps, followed, step_of, item_of, steps_of}
-use Rattle.elab_proc.specs.Refusals.{own_faults, case_faults, labels_in}
+use Rattle.process_latches.proofs.Common.{◌≡◌, zero, suc, ℕ, ◌<◌, Bool, true, false, ◌&&◌, ◌||◌, List, [], ◌∷◌, ◌++◌, map, refl, sym, ap, ◌∙◌, subst, arith, length, get_or, take, append_assoc, Option}
+use Rattle.process_latches.proofs.Common.{None, Some, if◌then◌else◌, flat_map, option_map, append-nil, Span, Expr, first_token, CaseItem, out-CaseItem, CaseKind, fold_out-CaseItem, Stmt, Fault, least}
+use Rattle.process_latches.proofs.Common.{Names, Bits, no_bits, is_empty, least_none, item_steps, covered, early, all_missed, arms_covered, arms_early, Steps, Done, Choose, Case, Refuse, Turns, Arms}
+use Rattle.process_latches.proofs.Common.{InNames, Item, Selection, labelled, labels_of, chosen_arms, default_of, done_by, bodies_of, selection_of, case_steps, followed, step_of, item_of, steps_of}
+use Rattle.process_latches.proofs.Common.{own_faults, case_faults, labels_in, bits_in, Mask, Marks, Write, AreBlank, Added, Marked, Met, reads_by, sound_reads, all_sound_reads, sound_expr, sound}
+use Rattle.process_latches.proofs.Common.{sound_arms, has_stop, arms_stop, IsOwn, Chosen, AreArms, AlsoWrites, all_cover, some_read, items_write, some_stop, writes, arms_writes, or_end, or-again}
 use Rattle.elab_proc.proofs.StepLemmas.{labels_same}
-use Rattle.signal_masks.specs.Masks.{bits_in}
-use Rattle.signal_masks.specs.declared.mask.Mask.{Mask}
 use Rattle.case_arms.specs.Arms.{item_body, arms_with, arms_by}
 use Rattle.case_arms.proofs.Bounds.{body_here}
 use Rattle.case_arms.specs.declared.chosen.Chosen.{Chosen as Places}
-use Rattle.process_latches.specs.declared.marks.Marks.{Marks}
-use Rattle.process_latches.specs.declared.marks.Write.{Write}
-use Rattle.process_latches.specs.Marking.{AreBlank, Added, Marked, Met, reads_by, sound_reads, all_sound_reads}
-use Rattle.process_latches.specs.Sound.{sound_expr, sound, sound_arms, has_stop, arms_stop}
-use Rattle.process_latches.specs.Turning.{IsOwn, Chosen, AreArms, AlsoWrites, all_cover, some_read, items_write, some_stop}
-use Rattle.process_latches.specs.Writes.{writes, arms_writes}
-use Rattle.process_latches.proofs.Adding.{or_end, or_again, and_end, added_as, added_then, own_covered, own_early, own_writes, own_stopped}
+use Rattle.process_latches.proofs.Adding.{and_end, added_as, added_then, own_covered, own_early, own_writes, own_stopped}
 
 -- what steps alone mark
 pub own_marks : (s : Steps) (a b : Marks) → AreBlank a → Marked s a b → IsOwn s b
@@ -50,10 +27,6 @@ own_none a blank = record {
   writes_are = blank.writes_are;
   stopped_is = blank.stopped_is;
 }
-
--- two parts, met and added
-pub chosen_added : (f g both a b : Marks) → Met g f both → Added (bits_in both.covered) (bits_in both.early) both.writes.items both.is_stopped a b → Chosen f g a b
-chosen_added f g both a b met x = added_as _ _ _ _ _ _ _ _ a b met.covered_is met.early_is met.writes_are met.stopped_is x
 
 -- what a condition reads
 abbrev test_reads : Names → Expr → Bits
@@ -100,7 +73,7 @@ module _ (c d : Selection) (o : Steps) (same : d.names ≡ c.names) where
       let labels : Bool = all_sound_reads c.names x.labels n i in
       let here : Bool = early (sound (x.body c.names)) no_bits n i in
       let rest : Bool = arms_early d (sound_arms c.names (arms_with c xs o)) no_bits n i in
-      ap (λ (names : Names). all_missed names (map (sound_expr c.names) x.labels) no_bits n i || (here || rest)) same ∙ ap (λ (b : Bool). b || (here || rest)) (labels_read c.names x.labels n i) ∙ sym (or_again labels here rest) ∙ ap (λ (b : Bool). (labels || here) || b) (arms_read xs n i) ∙ or_swap (labels || here) (some_read c.names xs n i) (early (sound o) no_bits n i)
+      ap (λ (names : Names). all_missed names (map (sound_expr c.names) x.labels) no_bits n i || (here || rest)) same ∙ ap (λ (b : Bool). b || (here || rest)) (labels_read c.names x.labels n i) ∙ sym (or-again labels here rest) ∙ ap (λ (b : Bool). (labels || here) || b) (arms_read xs n i) ∙ or_swap (labels || here) (some_read c.names xs n i) (early (sound o) no_bits n i)
 
   arms_write : (xs : List Item) → arms_writes (sound_arms c.names (arms_with c xs o)) ≡ items_write c.names xs ++ writes (sound o)
   arms_write [] = refl
@@ -150,7 +123,7 @@ cover_push names (y ∷ xs) x n i = ap (λ (b : Bool). covered (sound (y.body na
 
 read_push : (names : Names) (xs : List Item) (x : Item) (n i : ℕ) → some_read names (xs ++ x ∷ []) n i ≡ (some_read names xs n i || (all_sound_reads names x.labels n i || early (sound (x.body names)) no_bits n i))
 read_push names [] x n i = or_end (all_sound_reads names x.labels n i || early (sound (x.body names)) no_bits n i)
-read_push names (y ∷ xs) x n i = ap (λ (b : Bool). (all_sound_reads names y.labels n i || early (sound (y.body names)) no_bits n i) || b) (read_push names xs x n i) ∙ sym (or_again (all_sound_reads names y.labels n i || early (sound (y.body names)) no_bits n i) (some_read names xs n i) (all_sound_reads names x.labels n i || early (sound (x.body names)) no_bits n i))
+read_push names (y ∷ xs) x n i = ap (λ (b : Bool). (all_sound_reads names y.labels n i || early (sound (y.body names)) no_bits n i) || b) (read_push names xs x n i) ∙ sym (or-again (all_sound_reads names y.labels n i || early (sound (y.body names)) no_bits n i) (some_read names xs n i) (all_sound_reads names x.labels n i || early (sound (x.body names)) no_bits n i))
 
 write_push : (names : Names) (xs : List Item) (x : Item) → items_write names (xs ++ x ∷ []) ≡ items_write names xs ++ writes (sound (x.body names))
 write_push names [] x = append-nil (writes (sound (x.body names)))
@@ -158,7 +131,7 @@ write_push names (y ∷ xs) x = ap (λ (l : List Write). writes (sound (y.body n
 
 stop_push : (names : Names) (xs : List Item) (x : Item) → some_stop names (xs ++ x ∷ []) ≡ (some_stop names xs || has_stop (sound (x.body names)))
 stop_push names [] x = or_end (has_stop (sound (x.body names)))
-stop_push names (y ∷ xs) x = ap (λ (b : Bool). has_stop (sound (y.body names)) || b) (stop_push names xs x) ∙ sym (or_again (has_stop (sound (y.body names))) (some_stop names xs) (has_stop (sound (x.body names))))
+stop_push names (y ∷ xs) x = ap (λ (b : Bool). has_stop (sound (y.body names)) || b) (stop_push names xs x) ∙ sym (or-again (has_stop (sound (y.body names))) (some_stop names xs) (has_stop (sound (x.body names))))
 
 labelled_push : (i : CaseItem) (xs : List CaseItem) → labelled (map item_steps (i ∷ xs)) ≡ (if is_empty (labels_in i) then labelled (map item_steps xs) else opened i ∷ labelled (map item_steps xs))
 labelled_push i xs = ap (λ (z : Item). labelled (z ∷ map item_steps xs)) (item_is i)
@@ -203,9 +176,9 @@ arms_more names here is k i last m new a b d at h e same x blank labels body met
     let s2 : d.is_stopped ≡ has_stop s = own_stopped _ _ _ _ a d blank both in
     subst (λ (l : List Item). ArmsSoFar names l last new) (sym (labelled_more is k i at h e)) (record {
       covered_is = λ n j. met.covered_is n j ∙ ap (λ (t : Bool). t && bits_in d.covered n j) (x.covered_is n j) ∙ ap (λ (t : Bool). (bits_in last.covered n j && all_cover names xs n j) && t) (c2 n j) ∙ and_again (bits_in last.covered n j) (all_cover names xs n j) (covered s no_bits n j) ∙ ap (λ (t : Bool). bits_in last.covered n j && t) (sym (cover_push names xs (opened i) n j));
-      early_is = λ n j. met.early_is n j ∙ ap (λ (t : Bool). t || bits_in d.early n j) (x.early_is n j) ∙ ap (λ (t : Bool). (bits_in last.early n j || some_read names xs n j) || t) (e2 n j) ∙ or_again (bits_in last.early n j) (some_read names xs n j) (all_sound_reads names (labels_in i) n j || early s no_bits n j) ∙ ap (λ (t : Bool). bits_in last.early n j || t) (sym (read_push names xs (opened i) n j));
+      early_is = λ n j. met.early_is n j ∙ ap (λ (t : Bool). t || bits_in d.early n j) (x.early_is n j) ∙ ap (λ (t : Bool). (bits_in last.early n j || some_read names xs n j) || t) (e2 n j) ∙ or-again (bits_in last.early n j) (some_read names xs n j) (all_sound_reads names (labels_in i) n j || early s no_bits n j) ∙ ap (λ (t : Bool). bits_in last.early n j || t) (sym (read_push names xs (opened i) n j));
       writes_are = met.writes_are ∙ ap (λ (l : List Write). l ++ d.writes.items) x.writes_are ∙ ap (λ (l : List Write). items_write names xs ++ l) w2 ∙ sym (write_push names xs (opened i));
-      stopped_is = met.stopped_is ∙ ap (λ (t : Bool). t || d.is_stopped) x.stopped_is ∙ ap (λ (t : Bool). (last.is_stopped || some_stop names xs) || t) s2 ∙ or_again last.is_stopped (some_stop names xs) (has_stop s) ∙ ap (λ (t : Bool). last.is_stopped || t) (sym (stop_push names xs (opened i)));
+      stopped_is = met.stopped_is ∙ ap (λ (t : Bool). t || d.is_stopped) x.stopped_is ∙ ap (λ (t : Bool). (last.is_stopped || some_stop names xs) || t) s2 ∙ or-again last.is_stopped (some_stop names xs) (has_stop s) ∙ ap (λ (t : Bool). last.is_stopped || t) (sym (stop_push names xs (opened i)));
     })
 
 -- no arm yet

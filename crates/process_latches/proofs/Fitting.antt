@@ -1,29 +1,15 @@
 -- Parts of left sides, and what of them is taken where they are refused.
-use Rattle.std.proofs.Common.{◌≡◌, ℕ, Bool, true, false, ◌||◌, List, [], ◌∷◌, ◌++◌, map, refl, sym, ap, ◌∙◌, subst, rules}
-use Rattle.std.specs.Prelude.{Some, if◌then◌else◌}
-use Rattle.mcy_base.specs.declared.span.Span.{Span}
-use Rattle.vlog_syntax.specs.Places.{left_first, left_first_token}
-use Rattle.vlog_syntax.specs.declared.identifier.Identifier.{Identifier}
-use Rattle.vlog_syntax.specs.declared.expr.Expr.{Expr}
+use Rattle.process_latches.proofs.Common.{◌≡◌, ℕ, Bool, true, false, ◌||◌, List, [], ◌∷◌, ◌++◌, map, refl, sym, ap, ◌∙◌, subst, rules, Some, if◌then◌else◌, Span, left_first, left_first_token}
+use Rattle.process_latches.proofs.Common.{Identifier, Expr, LeftSide, out-LeftSide, the_lemmas, Fault, least, Names, is_empty, IsWhole, no_bits, Select, Whole, Bit, Range, Indexed, Part, parts_of}
+use Rattle.process_latches.proofs.Common.{concatenated, parts_missed, index_reads, parts-name, parts-bit, parts-range, parts-indexed, parts-concatenation, AreSized, own_faults, same_form, form_step}
+use Rattle.process_latches.proofs.Common.{IsFitSelect, AreFit, indices_read, IsPart, part_form, part_left, left_of, sound_part, sound_left}
 use Rattle.vlog_syntax.specs.declared.expr.Expr.TheVariants as v
-use Rattle.vlog_syntax.specs.declared.left_side.LeftSide.{LeftSide, out-LeftSide}
-use Rattle.vlog_syntax.specs.declared.left_side.LeftSide.TheViews.{the_lemmas}
 use Rattle.vlog_syntax.specs.declared.left_side.LeftSide.TheVariants as lv
 use Rattle.vlog_syntax.specs.declared.left_side.LeftSide.TheOpen as l
 use Rattle.vlog_syntax.specs.declared.left_side.LeftSide.TheFolds.{fold-roll-LeftSide}
-use Rattle.vlog_meaning.specs.declared.fault.Fault.{Fault}
-use Rattle.vlog_meaning.specs.Answers.{least}
-use Rattle.vlog_meaning.specs.Scopes.{Names}
-use Rattle.vlog_meaning.specs.Senses.{is_empty, IsWhole, no_bits}
 use Rattle.vlog_meaning.proofs.Whole.{whole_index, whole_part, whole_indexed}
-use Rattle.vlog_effects.specs.LeftSides.{Select, Whole, Bit, Range, Indexed, Part, parts_of, concatenated}
-use Rattle.vlog_effects.specs.Latches.{parts_missed, index_reads}
-use Rattle.vlog_effects.proofs.Folds.{parts-name, parts-bit, parts-range, parts-indexed, parts-concatenation}
-use Rattle.elab_proc.specs.Refusals.{AreSized, own_faults, same_form, form_step}
-use Rattle.signal_masks.specs.Parts.{IsFitSelect, AreFit, indices_read}
-use Rattle.process_latches.specs.Marking.{IsPart}
-use Rattle.process_latches.specs.Sound.{part_form, part_left, left_of, sound_part, sound_left}
 use Rattle.process_latches.proofs.Adding.{and_end}
+use Rattle.process_latches.proofs.Bodies.{some_faults}
 
 fit_select : (names : Names) (n : Identifier) (s : Select) → IsWhole names (part_form n s) → IsFitSelect names s
 fit_select names n Whole w = tt
@@ -34,15 +20,7 @@ fit_select names n (Indexed at b c) w = let f = whole_indexed names (v.IndexedPa
 pub fit_part : (names : Names) (left : LeftSide) (n : Identifier) (p : Part) → AreSized names → IsPart left n p → IsWhole names (same_form left) → AreFit names (parts_of left)
 fit_part names left n p sized is whole = subst (AreFit names) (sym is.parts) ((sized p.name.name, fit_select names p.name p.select (subst (IsWhole names) is.form whole)), tt)
 
-pub fit_whole : (names : Names) (n : Identifier) → AreSized names → AreFit names (parts_of (lv.Name n))
-fit_whole names n sized = subst (AreFit names) (sym (parts-name n)) ((sized n.name, tt), tt)
-
-some_faults : (fs : List Fault) (f : Fault) → Some f ≡ least fs → is_empty fs ≡ false
-unfolding least
-some_faults [] f is = cc
-some_faults (g ∷ more) f is = refl
-
-no_faults : (fs : List Fault) → fs ≡ [] → is_empty fs ≡ true
+pub no_faults : (fs : List Fault) → fs ≡ [] → is_empty fs ≡ true
 no_faults [] e = refl
 no_faults (f ∷ more) e = cc
 

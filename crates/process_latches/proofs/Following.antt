@@ -1,20 +1,10 @@
 -- What steps that follow others, choices and arms assign and read, from nothing.
-use Rattle.std.proofs.Common.{◌≡◌, ℕ, Bool, true, false, not, ◌&&◌, ◌||◌, List, ◌∷◌, ◌++◌, refl, sym, ap, ◌∙◌, subst, append_assoc}
-use Rattle.std.specs.Prelude.{if◌then◌else◌}
-use Rattle.vlog_syntax.specs.Places.{first_token, left_first_token}
-use Rattle.vlog_meaning.specs.Senses.{Bits, no_bits, either, is_empty}
-use Rattle.vlog_effects.specs.Steps.{Steps, Done, Assign, Choose, Case, Refuse, Turns, followed}
-use Rattle.vlog_effects.specs.LeftSides.{parts_of}
-use Rattle.vlog_effects.specs.Latches.{all_of, parts_cover, missed, parts_missed, covered, early, arms_covered, arms_early}
-use Rattle.vlog_effects.proofs.Following.{followed-again}
+use Rattle.process_latches.proofs.Common.{◌≡◌, ℕ, Bool, true, false, not, ◌&&◌, ◌||◌, List, ◌∷◌, ◌++◌, refl, sym, ap, ◌∙◌, subst, append_assoc, if◌then◌else◌, first_token, left_first_token, Bits}
+use Rattle.process_latches.proofs.Common.{no_bits, either, is_empty, Steps, Done, Assign, Choose, Case, Refuse, Turns, followed, parts_of, all_of, parts_cover, missed, parts_missed, covered, early}
+use Rattle.process_latches.proofs.Common.{arms_covered, arms_early, followed-again, case_faults, Marks, Write, Marked, sound_expr, sound_test, sound_right, sound_left, sound, sound_arms, has_stop}
+use Rattle.process_latches.proofs.Common.{is_stop, arms_stop, writes, arms_writes, parts_writes, or-again}
 use Rattle.vlog_effects.proofs.Pointwise.{covered-at, covered-all, early-at, early-all}
-use Rattle.elab_proc.specs.Refusals.{case_faults}
-use Rattle.process_latches.specs.declared.marks.Marks.{Marks}
-use Rattle.process_latches.specs.declared.marks.Write.{Write}
-use Rattle.process_latches.specs.Marking.{Marked}
-use Rattle.process_latches.specs.Sound.{sound_expr, sound_test, sound_right, sound_left, sound, sound_arms, has_stop, is_stop, arms_stop}
-use Rattle.process_latches.specs.Writes.{writes, arms_writes, parts_writes}
-use Rattle.process_latches.proofs.Adding.{or_again, and_end, added_as, added_then}
+use Rattle.process_latches.proofs.Adding.{and_end, added_as, added_then}
 
 covered_followed : (a b : Steps) (c : Bits) → covered (followed a b) c ≡ covered b (covered a c)
 covered_followed Done b c = refl
@@ -28,15 +18,15 @@ early_followed Done b c n i = refl
 early_followed (Assign x more) b c n i =
     let first : Bool = missed x.names x.right c n i || parts_missed x.names (parts_of x.left) c n i in
     let next : Bits = either c (parts_cover x.names (parts_of x.left)) in
-    ap (λ (y : Bool). first || y) (early_followed more b next n i) ∙ sym (or_again first (early more next n i) (early b (covered more next) n i))
+    ap (λ (y : Bool). first || y) (early_followed more b next n i) ∙ sym (or-again first (early more next n i) (early b (covered more next) n i))
 early_followed (Choose at x then_part else_part more) b c n i =
     let first : Bool = missed x.names x.condition c n i || (early then_part c n i || early else_part c n i) in
     let next : Bits = all_of (covered then_part c) (covered else_part c) in
-    ap (λ (y : Bool). first || y) (early_followed more b next n i) ∙ sym (or_again first (early more next n i) (early b (covered more next) n i))
+    ap (λ (y : Bool). first || y) (early_followed more b next n i) ∙ sym (or-again first (early more next n i) (early b (covered more next) n i))
 early_followed (Case x arms bodies more) b c n i =
     let first : Bool = missed x.names x.selector c n i || arms_early x arms c n i in
     let next : Bits = arms_covered arms c in
-    ap (λ (y : Bool). first || y) (early_followed more b next n i) ∙ sym (or_again first (early more next n i) (early b (covered more next) n i))
+    ap (λ (y : Bool). first || y) (early_followed more b next n i) ∙ sym (or-again first (early more next n i) (early b (covered more next) n i))
 early_followed (Refuse x more) b c n i = early_followed more b c n i
 
 -- What is assigned and read after some bits are assigned, from what is assigned and read after none are.
@@ -67,9 +57,9 @@ writes_followed (Refuse x more) b = writes_followed more b
 stop_followed : (a b : Steps) → has_stop (followed a b) ≡ (has_stop a || has_stop b)
 stop_followed Done b = refl
 stop_followed (Assign x more) b = stop_followed more b
-stop_followed (Choose at x then_part else_part more) b = ap (λ (t : Bool). (has_stop then_part || has_stop else_part) || t) (stop_followed more b) ∙ sym (or_again (has_stop then_part || has_stop else_part) (has_stop more) (has_stop b))
-stop_followed (Case x arms bodies more) b = ap (λ (t : Bool). arms_stop arms || t) (stop_followed more b) ∙ sym (or_again (arms_stop arms) (has_stop more) (has_stop b))
-stop_followed (Refuse x more) b = ap (λ (t : Bool). is_stop x || t) (stop_followed more b) ∙ sym (or_again (is_stop x) (has_stop more) (has_stop b))
+stop_followed (Choose at x then_part else_part more) b = ap (λ (t : Bool). (has_stop then_part || has_stop else_part) || t) (stop_followed more b) ∙ sym (or-again (has_stop then_part || has_stop else_part) (has_stop more) (has_stop b))
+stop_followed (Case x arms bodies more) b = ap (λ (t : Bool). arms_stop arms || t) (stop_followed more b) ∙ sym (or-again (arms_stop arms) (has_stop more) (has_stop b))
+stop_followed (Refuse x more) b = ap (λ (t : Bool). is_stop x || t) (stop_followed more b) ∙ sym (or-again (is_stop x) (has_stop more) (has_stop b))
 
 sound_followed : (a b : Steps) → sound (followed a b) ≡ followed (sound a) (sound b)
 sound_followed Done b = refl

@@ -1,34 +1,13 @@
 -- What is refused in the statements of an `initial`, by their forms.
-use Rattle.std.proofs.Common.{◌≡◌, ℕ, suc, ◌<◌, Bool, false, List, [], ◌∷◌, ◌++◌, map, length, take, get_or, refl, sym, ap, ◌∙◌, subst}
-use Rattle.std.specs.Prelude.{Option, None, Some, if◌then◌else◌}
-use Rattle.std.specs.List.{flat_map}
-use Rattle.mcy_base.specs.declared.span.Span.{Span}
-use Rattle.vlog_syntax.specs.declared.expr.Expr.{Expr}
+use Rattle.process_latches.proofs.Common.{◌≡◌, ℕ, suc, ◌<◌, Bool, false, List, [], ◌∷◌, ◌++◌, map, length, take, get_or, refl, sym, ap, ◌∙◌, subst, Option, None, Some, if◌then◌else◌, flat_map, Span}
+use Rattle.process_latches.proofs.Common.{Expr, Identifier, LeftSide, out-LeftSide, Assignment, Stmt, fold-roll-Stmt, left_first_token, Fault, Decl, least, Names, decl_shape, Sense, sense, assigned}
+use Rattle.process_latches.proofs.Common.{not_constant, constant_faults_at, is_empty, least_none, least_empty, name_alone, out-name, Refusal, IsFirst, AreSized, flat_take}
 use Rattle.vlog_syntax.specs.declared.feature.Feature.TheVariants.{InitialForm}
-use Rattle.vlog_syntax.specs.declared.identifier.Identifier.{Identifier}
-use Rattle.vlog_syntax.specs.declared.left_side.LeftSide.{LeftSide, out-LeftSide}
 use Rattle.vlog_syntax.specs.declared.left_side.LeftSide.TheVariants as lv
-use Rattle.vlog_syntax.specs.declared.stmt.Assignment.{Assignment}
-use Rattle.vlog_syntax.specs.declared.stmt.Stmt.{Stmt}
 use Rattle.vlog_syntax.specs.declared.stmt.Stmt.TheOpen as t
 use Rattle.vlog_syntax.specs.declared.stmt.Stmt.TheVariants.{SeqBlock, BlockingAssignment, rolls-SeqBlock, rolls-BlockingAssignment}
-use Rattle.vlog_syntax.specs.declared.stmt.Stmt.TheFolds.{fold-roll-Stmt}
-use Rattle.vlog_syntax.specs.Places.{left_first_token}
-use Rattle.vlog_meaning.specs.declared.fault.Fault.{Fault}
-use Rattle.vlog_meaning.specs.declared.scope.Decl.{Decl}
-use Rattle.vlog_meaning.specs.Answers.{least}
 use Rattle.vlog_meaning.specs.Operators.{IsSized}
-use Rattle.vlog_meaning.specs.Scopes.{Names, decl_shape}
-use Rattle.vlog_meaning.specs.Senses.{Sense, sense, assigned, not_constant, constant_faults_at, is_empty}
-use Rattle.vlog_meaning.proofs.Firsts.{least_none}
-use Rattle.vlog_meaning.proofs.Refusals.{least_empty}
-use Rattle.vlog_effects.specs.Steps.{name_alone}
-use Rattle.vlog_effects.proofs.Folds.{out-name}
-use Rattle.elab_proc.specs.declared.refusal.Refusal.{Refusal}
 use Rattle.elab_proc.specs.declared.refusal.Refusal.TheVariants.{Wrong, Unsupported}
-use Rattle.elab_proc.specs.Order.{IsFirst}
-use Rattle.elab_proc.specs.Refusals.{AreSized}
-use Rattle.elab_proc.proofs.Lists.{flat_take}
 use Rattle.process_latches.specs.Initial.{value_refusals, start_refusals, assignment_refusals, initial_step, initial_item, initial_refusals}
 
 found_in : (names : Names) (body : List Stmt) → flat_map (λ (found : List Refusal). found) (map (initial_refusals names) body) ≡ flat_map (initial_refusals names) body

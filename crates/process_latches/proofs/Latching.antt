@@ -1,19 +1,8 @@
 -- The variables that are assigned, from the last one back, and the latch among them that stands first.
-use Rattle.std.proofs.Common.{◌≡◌, zero, suc, ℕ, ◌<◌, ◌≤◌, ◌-◌, Bool, true, false, not, ◌||◌, List, [], ◌∷◌, ◌++◌, map, refl, sym, ap, ◌∙◌, arith, length, get_or, drop, append_assoc}
-use Rattle.std.specs.Prelude.{Option, None, Some, if◌then◌else◌}
-use Rattle.mcy_base.specs.declared.span.Span.{Span}
-use Rattle.vlog_syntax.specs.Places.{left_first_token}
-use Rattle.vlog_meaning.specs.Scopes.{Names}
-use Rattle.vlog_meaning.specs.Senses.{no_bits}
-use Rattle.vlog_effects.specs.LeftSides.{Part, Vector, part_vector, parts_of}
-use Rattle.vlog_effects.specs.Latches.{Target, part_targets, parts_targets, targets, arms_targets, some_bit, is_latch, latches, earlier, first_of, latch_of, covered, early}
-use Rattle.vlog_effects.specs.Steps.{Steps, Done, Assign, Choose, Case, Refuse, Arms, Otherwise, Arm}
-use Rattle.signal_masks.specs.Masks.{has_bit, bits_in}
-use Rattle.process_latches.specs.declared.marks.Marks.{Marks}
-use Rattle.process_latches.specs.declared.marks.Write.{Write}
-use Rattle.process_latches.specs.Latching.{first_latch, latch_in}
-use Rattle.process_latches.specs.Turning.{IsOwn}
-use Rattle.process_latches.specs.Writes.{part_writes, parts_writes, writes, arms_writes, target_of}
+use Rattle.process_latches.proofs.Common.{◌≡◌, zero, suc, ℕ, ◌<◌, ◌≤◌, ◌-◌, Bool, true, false, not, ◌||◌, List, [], ◌∷◌, ◌++◌, map, refl, sym, ap, ◌∙◌, arith, length, get_or, drop, append_assoc}
+use Rattle.process_latches.proofs.Common.{Option, None, Some, if◌then◌else◌, Span, left_first_token, Names, no_bits, Part, Vector, part_vector, parts_of, Target, part_targets, parts_targets, targets}
+use Rattle.process_latches.proofs.Common.{arms_targets, some_bit, is_latch, latches, earlier, first_of, latch_of, covered, early, Steps, Done, Assign, Choose, Case, Refuse, Arms, Otherwise, Arm}
+use Rattle.process_latches.proofs.Common.{has_bit, bits_in, Marks, Write, first_latch, latch_in, IsOwn, part_writes, parts_writes, writes, arms_writes, target_of}
 
 -- What is assigned, as targets.
 

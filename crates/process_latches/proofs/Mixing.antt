@@ -1,22 +1,13 @@
 -- The first places of assignments, from the last one back.
-use Rattle.std.proofs.Common.{◌≡◌, zero, suc, ℕ, ◌<◌, Bool, true, false, not, ◌&&◌, List, [], ◌∷◌, ◌++◌, refl, sym, ap, ◌∙◌, subst, cond, nat_eq, length, get_or, take, arith}
-use Rattle.std.specs.Prelude.{Option, Some, if◌then◌else◌}
-use Rattle.std.specs.List.{flat_map}
+use Rattle.process_latches.proofs.Common.{◌≡◌, zero, suc, ℕ, ◌<◌, Bool, true, false, ◌&&◌, List, [], ◌∷◌, ◌++◌, refl, sym, ap, ◌∙◌, subst, cond, nat_eq, length, get_or, take, arith, Option, Some}
+use Rattle.process_latches.proofs.Common.{if◌then◌else◌, flat_map, Span, Refusal, IsFirst, flat_take, Write, same_kind, lesser, first_place, mixed_at, HasFirsts}
 use Rattle.std.specs.BTreeMap.{BTreeMap, get, is_at, Updates, IsEmpty}
 use Rattle.std.specs.Ordering.{nat_cmp}
 use Rattle.std.proofs.lemmas.Bool.Decides.{nat_tests}
-use Rattle.mcy_base.specs.declared.span.Span.{Span}
-use Rattle.elab_proc.specs.declared.refusal.Refusal.{Refusal}
-use Rattle.elab_proc.specs.Order.{IsFirst}
-use Rattle.elab_proc.proofs.Lists.{flat_take}
-use Rattle.process_latches.specs.declared.marks.Write.{Write}
-use Rattle.process_latches.specs.Mixed.{same_kind, lesser, first_place, mixed_after, mixed_at, HasFirsts}
+use Rattle.std.proofs.lemmas.Map.Views.{exact_unsigned_eq}
 
 at_number : (k q : ℕ) → is_at (nat_cmp k) q ≡ nat_eq k q
 at_number k q = grind (arith, nat_tests)
-
-same_number : (k q : ℕ) → nat_eq k q ≡ true → k ≡ q
-same_number k q e = grind (arith, nat_tests)
 
 either_way : (a b same : Bool) (p l q r : Option Span) → a ≡ b → same ≡ true → (b ≡ true → p ≡ l) → q ≡ r → cond a p q ≡ (if b && same then l else r)
 either_way true true true p l q r e s this that = this refl
@@ -43,12 +34,8 @@ firsts_skip ws w is_blocking m other h number = neither (nat_eq w.number number)
 pub firsts_more : (ws : List Write) (w : Write) (is_blocking : Bool) (m n : BTreeMap ℕ Span) (p : Span) → same_kind w.is_blocking is_blocking ≡ true → Some p ≡ lesser w.first (get nat_cmp m w.number) → Updates nat_cmp m n w.number (Some p) → HasFirsts ws is_blocking m → HasFirsts (w ∷ ws) is_blocking n
 firsts_more ws w is_blocking m n p same is updates h number =
     updates.0 number ∙ either_way (is_at (nat_cmp w.number) number) (nat_eq w.number number) (same_kind w.is_blocking is_blocking) (Some p) (lesser w.first (first_place ws number is_blocking)) (get nat_cmp m number) (first_place ws number is_blocking) (at_number w.number number) same
-    (λ e. is ∙ ap (λ (k : ℕ). lesser w.first (get nat_cmp m k)) (same_number w.number number e) ∙ ap (lesser w.first) (h number))
+    (λ e. is ∙ ap (λ (k : ℕ). lesser w.first (get nat_cmp m k)) (exact_unsigned_eq w.number number e) ∙ ap (lesser w.first) (h number))
     (h number)
-
--- what is refused in an assignment, by the first places of the other kind
-pub mixed_is : (ws : List Write) (w : Write) (m : BTreeMap ℕ Span) (is_blocking : Bool) (other : Option Span) (found : Option Refusal) → not w.is_blocking ≡ is_blocking → other ≡ get nat_cmp m w.number → HasFirsts ws is_blocking m → IsFirst (mixed_after other w.first) found → IsFirst (mixed_at ws w) found
-mixed_is ws w m is_blocking other found kind is h first = subst (λ (o : Option Span). IsFirst (mixed_after o w.first) found) (is ∙ h w.number ∙ ap (first_place ws w.number) (sym kind)) first
 
 any_default : (ws : List Write) (k : ℕ) (d e : Write) → k < length ws → get_or ws k d ≡ get_or ws k e
 any_default [] k d e h = absurd (omega arith)

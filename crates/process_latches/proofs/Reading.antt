@@ -1,31 +1,12 @@
 -- What is read of expressions, where they are refused.
-use Rattle.std.proofs.Common.{◌≡◌, suc, zero, ℕ, ◌<◌, Bool, true, false, ◌||◌, List, [], ◌∷◌, refl, sym, ap, ◌∙◌, subst, arith, length, get_or, take}
-use Rattle.std.specs.Prelude.{Option, None, Some, if◌then◌else◌}
-use Rattle.vlog_syntax.specs.Places.{first_token}
-use Rattle.vlog_syntax.specs.declared.expr.Expr.{Expr}
+use Rattle.process_latches.proofs.Common.{◌≡◌, suc, zero, ℕ, ◌<◌, Bool, true, false, ◌||◌, List, [], ◌∷◌, refl, sym, ap, ◌∙◌, subst, arith, length, get_or, take, Option, None, Some, if◌then◌else◌}
+use Rattle.process_latches.proofs.Common.{first_token, Expr, Fault, least, Names, Sense, sense, assigned, no_bits, is_empty, or_else, IsWhole, left_nil, these_nil, least_none, reads, width_of, wrong}
+use Rattle.process_latches.proofs.Common.{divisions, Marks, Added, reads_by, sound_reads, all_sound_reads, right_faults, or_end, or-again}
 use Rattle.vlog_syntax.specs.declared.expr.Expr.TheVariants as v
-use Rattle.vlog_meaning.specs.declared.fault.Fault.{Fault}
-use Rattle.vlog_meaning.specs.Answers.{least}
-use Rattle.vlog_meaning.specs.Scopes.{Names}
-use Rattle.vlog_meaning.specs.Senses.{Sense, sense, assigned, no_bits, is_empty, or_else, IsWhole}
-use Rattle.vlog_meaning.proofs.Blanks.{left_nil, these_nil}
-use Rattle.vlog_meaning.proofs.Firsts.{least_none}
 use Rattle.vlog_meaning.proofs.Steps.{sense_concatenation}
-use Rattle.vlog_effects.specs.Expressions.{reads, width_of}
-use Rattle.elab_proc.specs.Refusals.{wrong, divisions}
-use Rattle.process_latches.specs.declared.marks.Marks.{Marks}
-use Rattle.process_latches.specs.Marking.{Added, reads_by, sound_reads, all_sound_reads}
-use Rattle.process_latches.specs.Sound.{right_faults}
-use Rattle.process_latches.proofs.Adding.{or_end, or_again, and_end, added_as, added_then, added_none}
-
-no_faults : (fs : List Fault) → fs ≡ [] → is_empty fs ≡ true
-no_faults [] e = refl
-no_faults (f ∷ more) e = cc
-
-some_faults : (fs : List Fault) (f : Fault) → Some f ≡ least fs → is_empty fs ≡ false
-unfolding least
-some_faults [] f is = cc
-some_faults (g ∷ more) f is = refl
+use Rattle.process_latches.proofs.Adding.{and_end, added_as, added_then, added_none}
+use Rattle.process_latches.proofs.Bodies.{some_faults}
+use Rattle.process_latches.proofs.Fitting.{no_faults}
 
 -- divisions by 0 in a right side, at the width of both sides
 abbrev assigned_zeros : Names → Expr → Expr → List Fault
@@ -58,7 +39,7 @@ right_shaped names left right o is none = left_nil _ _ (go (is_empty (wrong name
 read_take : (names : Names) (xs : List Expr) (k : ℕ) (x : Expr) (n i : ℕ) → x ≡ get_or xs k x → k < length xs → all_sound_reads names (take (suc k) xs) n i ≡ (all_sound_reads names (take k xs) n i || sound_reads names x n i)
 read_take names [] k x n i at h = absurd (omega arith)
 read_take names (y ∷ ys) zero x n i at h = or_end (sound_reads names y n i) ∙ ap (λ (e : Expr). sound_reads names e n i) (sym at)
-read_take names (y ∷ ys) (suc k) x n i at h = ap (λ (b : Bool). sound_reads names y n i || b) (read_take names ys k x n i at (omega arith)) ∙ sym (or_again (sound_reads names y n i) (all_sound_reads names (take k ys) n i) (sound_reads names x n i))
+read_take names (y ∷ ys) (suc k) x n i at h = ap (λ (b : Bool). sound_reads names y n i || b) (read_take names ys k x n i at (omega arith)) ∙ sym (or-again (sound_reads names y n i) (all_sound_reads names (take k ys) n i) (sound_reads names x n i))
 
 -- one expression more
 pub more_reads : (names : Names) (xs : List Expr) (k : ℕ) (x : Expr) (a b d : Marks) → x ≡ get_or xs k x → k < length xs → Added no_bits (all_sound_reads names (take k xs)) [] false a b → Added no_bits (sound_reads names x) [] false b d → Added no_bits (all_sound_reads names (take (suc k) xs)) [] false a d

@@ -1,22 +1,6 @@
 -- What is refused in the parts of a process, taken together.
-use Rattle.std.proofs.Common.{◌≡◌, Bool, List, ◌++◌, ◌∙◌, subst}
-use Rattle.std.specs.Prelude.{Option}
-use Rattle.mcy_base.specs.declared.span.Span.{Span}
-use Rattle.vlog_syntax.specs.declared.stmt.EventControl.{EventControl}
-use Rattle.vlog_syntax.specs.declared.stmt.Stmt.{Stmt}
-use Rattle.vlog_meaning.specs.Scopes.{Names}
-use Rattle.vlog_effects.specs.Steps.{Steps, steps_of}
-use Rattle.elab_proc.specs.declared.refusal.Refusal.{Refusal}
-use Rattle.elab_proc.specs.Order.{IsFirst}
-use Rattle.elab_proc.specs.Refusals.{step_refusals}
-use Rattle.process_latches.specs.declared.marks.Marks.{Marks}
-use Rattle.process_latches.specs.declared.marks.Write.{Write}
-use Rattle.process_latches.specs.Marking.{AreBlank, Marked}
-use Rattle.process_latches.specs.Mixed.{mixed_refusals}
-use Rattle.process_latches.specs.Refused.{latch_refusals, control_refusals, body_refusals}
-use Rattle.process_latches.specs.Sound.{sound}
-use Rattle.process_latches.specs.Turning.{IsOwn}
-use Rattle.process_latches.specs.Writes.{writes}
+use Rattle.process_latches.proofs.Common.{◌≡◌, Bool, List, ◌++◌, ◌∙◌, subst, Option, Span, EventControl, Stmt, Names, Steps, steps_of, Refusal, IsFirst, step_refusals, Marks, Write, AreBlank, Marked}
+use Rattle.process_latches.proofs.Common.{mixed_refusals, latch_refusals, control_refusals, body_refusals, sound, IsOwn, writes}
 use Rattle.process_latches.proofs.Choosing.{own_marks}
 
 -- an answer that is first in both of two lists whose firsts these are

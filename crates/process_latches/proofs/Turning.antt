@@ -1,33 +1,11 @@
 -- Loops turn by turn, and what ends them.
-use Rattle.std.proofs.Common.{◌≡◌, ℕ, ◌<◌, ◌≤◌, ◌+◌, ◌-◌, ◌%◌, ◌^◌, Bool, true, false, not, ◌||◌, nat_eq, List, [], ◌∷◌, refl, sym, ap, ◌∙◌, subst, arith}
-use Rattle.std.specs.Prelude.{Option, None, Some, if◌then◌else◌}
-use Rattle.std.specs.Option.{option_map}
+use Rattle.process_latches.proofs.Common.{◌≡◌, ℕ, ◌<◌, ◌≤◌, ◌+◌, ◌-◌, ◌%◌, ◌^◌, Bool, true, false, not, ◌||◌, nat_eq, List, [], ◌∷◌, refl, sym, ap, ◌∙◌, subst, arith, Option, None, Some}
+use Rattle.process_latches.proofs.Common.{if◌then◌else◌, option_map, Span, Word, Identifier, Expr, out-LeftSide, ConstError, Fault, Decl, Signal, Constant, least, const_error, Names, nothing}
+use Rattle.process_latches.proofs.Common.{with_name, no_bits, sense, assigned, told, where_faultless, constant_of, constant_faults, covered, early, Steps, Done, Refuse, Turns, Const, Flaw, InNames}
+use Rattle.process_latches.proofs.Common.{Loop, followed, refused, flaws_of, name_flaw, step_flaws, name_alone, tested, stepped, turns, max_turns, Refusal, IsFirst, step_refusals, next_steps}
+use Rattle.process_latches.proofs.Common.{turn_steps, next_value, Stops, Marks, Added, Marked, sound, has_stop, is_stop, last_steps, writes}
 use Rattle.std.specs.Str.{bytes_eq}
-use Rattle.mcy_base.specs.declared.span.Span.{Span}
-use Rattle.mcy_base.specs.declared.word.Word.{Word}
-use Rattle.vlog_syntax.specs.declared.identifier.Identifier.{Identifier}
-use Rattle.vlog_syntax.specs.declared.expr.Expr.{Expr}
-use Rattle.vlog_syntax.specs.declared.left_side.LeftSide.{out-LeftSide}
-use Rattle.vlog_meaning.specs.declared.fault.ConstError.{ConstError}
-use Rattle.vlog_meaning.specs.declared.fault.Fault.{Fault}
-use Rattle.vlog_meaning.specs.declared.scope.Decl.{Decl}
-use Rattle.vlog_meaning.specs.declared.scope.Decl.TheVariants.{Signal, Constant}
-use Rattle.vlog_meaning.specs.Answers.{least, const_error}
-use Rattle.vlog_meaning.specs.Scopes.{Names, nothing, with_name}
-use Rattle.vlog_meaning.specs.Senses.{no_bits, sense, assigned}
-use Rattle.vlog_effects.specs.Expressions.{told, where_faultless, constant_of, constant_faults}
-use Rattle.vlog_effects.specs.Latches.{covered, early}
-use Rattle.vlog_effects.specs.Steps.{Steps, Done, Refuse, Turns, Const, Flaw, InNames, Loop, followed, refused, flaws_of, name_flaw, step_flaws, name_alone, tested, stepped, turns, max_turns}
-use Rattle.elab_proc.specs.declared.refusal.Refusal.{Refusal}
-use Rattle.elab_proc.specs.Order.{IsFirst}
-use Rattle.elab_proc.specs.Refusals.{step_refusals}
-use Rattle.elab_proc.specs.Turns.{next_steps, turn_steps, next_value, Stops}
 use Rattle.elab_proc.proofs.TurnLemmas.{faults_at, flaw_told, constant_fails, constant_stands, test_ends, test_goes, turn_by_turn, turns_next, turns_none}
-use Rattle.process_latches.specs.declared.marks.Marks.{Marks}
-use Rattle.process_latches.specs.Marking.{Added, Marked}
-use Rattle.process_latches.specs.Sound.{sound, has_stop, is_stop}
-use Rattle.process_latches.specs.Turning.{last_steps}
-use Rattle.process_latches.specs.Writes.{writes}
 use Rattle.process_latches.proofs.Adding.{added_as, added_none}
 use Rattle.process_latches.proofs.Following.{marked_then}
 

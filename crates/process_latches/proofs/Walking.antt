@@ -1,42 +1,18 @@
 -- Statements of each kind, and how a loop starts.
-use Rattle.std.proofs.Common.{◌≡◌, zero, suc, ℕ, ◌<◌, ◌≤◌, ◌%◌, ◌^◌, Bool, true, false, List, [], ◌∷◌, map, refl, sym, ap, ◌∙◌, subst, arith, length, get_or, drop}
-use Rattle.std.specs.Prelude.{Option, None, Some}
-use Rattle.std.specs.Option.{option_map}
-use Rattle.mcy_base.specs.declared.span.Span.{Span}
-use Rattle.mcy_base.specs.declared.word.Word.{Word}
-use Rattle.vlog_syntax.specs.declared.identifier.Identifier.{Identifier}
-use Rattle.vlog_syntax.specs.declared.expr.Expr.{Expr}
-use Rattle.vlog_syntax.specs.declared.left_side.LeftSide.{out-LeftSide}
+use Rattle.process_latches.proofs.Common.{◌≡◌, zero, suc, ℕ, ◌<◌, ◌≤◌, ◌%◌, ◌^◌, Bool, true, false, List, [], ◌∷◌, map, refl, sym, ap, ◌∙◌, subst, arith, length, get_or, drop, Option, None, Some}
+use Rattle.process_latches.proofs.Common.{option_map, Span, Word, Identifier, Expr, out-LeftSide, left_first_token, Assignment, CaseItem, CaseKind, Stmt, roll-Stmt, fold-roll-Stmt, map-Stmt}
+use Rattle.process_latches.proofs.Common.{EventControl, ConstError, Decl, Signal, Constant, least, const_error, Names, nothing, no_bits, sense, assigned, constant_of, constant_faults, item_steps}
+use Rattle.process_latches.proofs.Common.{Steps, Done, Assign, Choose, Const, InNames, Item, Loop, assigning, step_of, item_of, in_turn, looped, all_turns, flaws_of, turns, max_turns, case_steps}
+use Rattle.process_latches.proofs.Common.{loop_steps, name_alone, steps_of, else_steps, own_faults, Marks, AreBlank, Added, Marked, reads_by, sound, IsOwn, Chosen}
 use Rattle.vlog_syntax.specs.declared.left_side.LeftSide.TheVariants as lv
-use Rattle.vlog_syntax.specs.Places.{left_first_token}
-use Rattle.vlog_syntax.specs.declared.stmt.Assignment.{Assignment}
-use Rattle.vlog_syntax.specs.declared.stmt.CaseItem.{CaseItem}
-use Rattle.vlog_syntax.specs.declared.stmt.CaseKind.{CaseKind}
-use Rattle.vlog_syntax.specs.declared.stmt.Stmt.{Stmt, roll-Stmt}
 use Rattle.vlog_syntax.specs.declared.stmt.Stmt.TheVariants as s
 use Rattle.vlog_syntax.specs.declared.stmt.Stmt.TheOpen as t
 use Rattle.vlog_syntax.specs.declared.stmt.Stmt.TheOpen.{Stmt-F}
-use Rattle.vlog_syntax.specs.declared.stmt.Stmt.TheFolds.{fold-roll-Stmt, map-Stmt}
 use Rattle.vlog_syntax.specs.declared.stmt.Argument.{Argument}
-use Rattle.vlog_syntax.specs.declared.stmt.EventControl.{EventControl}
-use Rattle.vlog_meaning.specs.declared.fault.ConstError.{ConstError}
 use Rattle.vlog_meaning.specs.declared.fault.ConstError.TheVariants as ce
-use Rattle.vlog_meaning.specs.declared.scope.Decl.{Decl}
-use Rattle.vlog_meaning.specs.declared.scope.Decl.TheVariants.{Signal, Constant}
-use Rattle.vlog_meaning.specs.Answers.{least, const_error}
-use Rattle.vlog_meaning.specs.Scopes.{Names, nothing}
-use Rattle.vlog_meaning.specs.Senses.{no_bits, sense, assigned}
-use Rattle.vlog_effects.specs.Expressions.{constant_of, constant_faults}
-use Rattle.vlog_effects.specs.Laws.{item_steps}
-use Rattle.vlog_effects.specs.Steps.{Steps, Done, Assign, Choose, Const, InNames, Item, Loop, assigning, step_of, item_of, in_turn, looped, all_turns, flaws_of, turns, max_turns, case_steps, loop_steps, name_alone, steps_of, else_steps}
 use Rattle.vlog_effects.proofs.Variants.{steps-block, steps-conditional, steps-case, steps-loop}
 use Rattle.vlog_effects.proofs.Running.{steps-blocking, steps-nonblocking}
-use Rattle.elab_proc.specs.Refusals.{own_faults}
 use Rattle.elab_proc.proofs.TurnLemmas.{faults_at, constant_stands, turns_next, loop_by_name}
-use Rattle.process_latches.specs.declared.marks.Marks.{Marks}
-use Rattle.process_latches.specs.Marking.{AreBlank, Added, Marked, reads_by}
-use Rattle.process_latches.specs.Sound.{sound}
-use Rattle.process_latches.specs.Turning.{IsOwn, Chosen}
 use Rattle.process_latches.proofs.Adding.{added_none}
 use Rattle.process_latches.proofs.Choosing.{own_marks, own_none, choice_marked}
 use Rattle.process_latches.proofs.Following.{marked_then}

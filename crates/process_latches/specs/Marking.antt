@@ -56,6 +56,8 @@ pub record Met (other old new : Marks) : Type 0 where
   pub writes_are : new.writes.items ≡ old.writes.items ++ other.writes.items
   pub stopped_is : new.is_stopped ≡ (old.is_stopped || other.is_stopped)
 
+-- For proofs alone.
+
 -- what parts of a left side assign, and what their indices read
 pub record BitsAdded (names : Names) (ps : List Part) (old new : Marks) : Type 0 where
   pub covered_is : (n i : ℕ) → bits_in new.covered n i ≡ (bits_in old.covered n i || parts_cover names ps n i)

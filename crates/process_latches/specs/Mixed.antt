@@ -5,8 +5,8 @@ use Rattle.std.specs.BTreeMap.{BTreeMap, get}
 use Rattle.std.specs.List.{flat_map}
 use Rattle.std.specs.Ordering.{nat_cmp}
 use Rattle.mcy_base.specs.declared.span.Span.{Span}
+use Rattle.mcy_base.specs.Places.{stands_before}
 use Rattle.vlog_syntax.specs.declared.feature.Feature.TheVariants.{MixedAssign}
-use Rattle.vlog_effects.specs.Latches.{stands_before}
 use Rattle.elab_proc.specs.declared.refusal.Refusal.{Refusal}
 use Rattle.elab_proc.specs.declared.refusal.Refusal.TheVariants.{Unsupported}
 use Rattle.process_latches.specs.declared.marks.Write.{Write}
@@ -35,6 +35,8 @@ mixed_at ws w = mixed_after (first_place ws w.number (not w.is_blocking)) w.firs
 
 abbrev pub mixed_refusals : List Write → List Refusal
 mixed_refusals ws = flat_map (mixed_at ws) ws
+
+-- For proofs alone.
 
 -- a map has the least places of the assignments of one kind
 abbrev pub HasFirsts : List Write → Bool → BTreeMap ℕ Span → Type 0

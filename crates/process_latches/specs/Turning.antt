@@ -16,6 +16,8 @@ use Rattle.process_latches.specs.Marking.{Added, Marked, all_sound_reads}
 use Rattle.process_latches.specs.Sound.{sound, has_stop}
 use Rattle.process_latches.specs.Writes.{writes}
 
+-- For proofs alone.
+
 -- the marks of steps alone
 pub record IsOwn (steps : Steps) (m : Marks) : Type 0 where
   pub covered_is : (n i : ℕ) → bits_in m.covered n i ≡ covered steps no_bits n i

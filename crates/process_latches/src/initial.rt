@@ -1,9 +1,8 @@
 //! What is refused first in an `initial`: it has constant assignments to whole variables, and blocks of these.
-ghost use Rattle.std.specs.Prelude.{◌≡◌, ◌≤◌, ◌∷◌, [], map, List};
+ghost use Rattle.std.specs.Prelude.{◌≡◌, ◌≤◌, ◌∷◌, []};
 ghost use Rattle.std.specs.List.{flat_map};
 ghost use Rattle.vlog_syntax.specs.declared.left_side.LeftSide.{out-LeftSide};
 ghost use Rattle.vlog_meaning.specs.declared.fault.Cause.TheVariants.{Unknown};
-ghost use Rattle.vlog_meaning.specs.declared.fault.Fault.{Fault as Wrong};
 ghost use Rattle.vlog_meaning.specs.Answers.{least};
 ghost use Rattle.vlog_meaning.specs.Scopes.{names_of};
 ghost use Rattle.vlog_meaning.specs.Senses.{fault, sense, assigned, constant_faults_at};
@@ -13,7 +12,7 @@ ghost use Rattle.elab_proc.specs.Order.{IsFirst};
 ghost use Rattle.elab_proc.specs.Refusals.{AreSized};
 ghost use Rattle.process_latches.specs.Initial.{value_refusals, start_refusals, assignment_refusals, initial_refusals};
 
-use elab_proc::{Refusal, earlier};
+use elab_proc::{Refusal, earlier, wrong};
 use mcy_base::Span;
 use vlog_meaning::{Cause, Decl, Fault, Scope, Shape, fault_in, shape_of, signal_in, zero_in};
 use vlog_syntax::{Assignment, Expr, Feature, Identifier, LeftSide, Stmt};
@@ -127,15 +126,5 @@ fn value_fault(width: u8, value: &Expr, scope: &Scope) -> Option<Fault>
             };
             zero_in(value, scope, context)
         }
-    }
-}
-
-/// A fault as a refusal.
-fn wrong(fault: Option<Fault>) -> Option<Refusal>
-    ensures { (fs : List Wrong) → fault ≡ least fs → IsFirst (map r.Wrong fs) result }
-{
-    match fault {
-        Some(fault) => Some(Refusal::Wrong(fault)),
-        None => None,
     }
 }

@@ -2,7 +2,7 @@
 ghost use Rattle.std.specs.Prelude.{◌≡◌, ◌∷◌, ◌||◌, not, List, map, IfOk, OnOk};
 ghost use Rattle.std.specs.Option.{option_map};
 ghost use Rattle.vlog_meaning.specs.Scopes.{names_of};
-ghost use Rattle.vlog_effects.specs.Latches.{some_bit, is_latch, stands_before, latch_of, earlier};
+ghost use Rattle.vlog_effects.specs.Latches.{some_bit, is_latch, latch_of, earlier};
 ghost use Rattle.vlog_effects.specs.Steps.{Steps, steps_of};
 ghost use Rattle.elab_proc.specs.Refusals.{AreSized};
 ghost use Rattle.signal_masks.specs.Masks.{has_bit};
@@ -14,7 +14,6 @@ ghost use Rattle.process_latches.specs.Writes.{target_of};
 
 use crate::marks::{Marks, Write, from_end};
 use crate::walk::mark;
-use mcy_base::Span;
 use std::alloc::{AllocError, Global};
 use vlog_meaning::Scope;
 use vlog_syntax::Stmt;
@@ -73,25 +72,12 @@ fn sooner(write: Write, other: Option<Write>) -> Option<Write>
     match other {
         None => Some(write),
         Some(other) => {
-            if stands_before(other.place, write.place) {
+            if other.place.stands_before(write.place) {
                 Some(other)
             } else {
                 Some(write)
             }
         }
-    }
-}
-
-/// Whether a place stands before another.
-pub(crate) fn stands_before(p: Span, q: Span) -> bool
-    ensures { result ≡ stands_before p q }
-{
-    if p.file != q.file {
-        p.file < q.file
-    } else if p.line != q.line {
-        p.line < q.line
-    } else {
-        p.col < q.col
     }
 }
 

@@ -4,7 +4,6 @@ ghost use Rattle.elab_proc.specs.Order.{IsFirst};
 ghost use Rattle.process_latches.specs.declared.marks.Write.{Write as Assigned};
 ghost use Rattle.process_latches.specs.Mixed.{same_kind, lesser, mixed_after, mixed_at, mixed_refusals, HasFirsts};
 
-use crate::latches::stands_before;
 use crate::marks::{Write, from_end};
 use elab_proc::{Refusal, earlier};
 use mcy_base::Span;
@@ -78,7 +77,7 @@ fn lesser(place: Span, other: Option<Span>) -> Span
     match other {
         None => place,
         Some(other) => {
-            if stands_before(other, place) {
+            if other.stands_before(place) {
                 other
             } else {
                 place
@@ -106,7 +105,7 @@ fn mixed_after(other: Option<Span>, at: Span) -> Option<Refusal>
     match other {
         None => None,
         Some(other) => {
-            if stands_before(at, other) {
+            if at.stands_before(other) {
                 None
             } else {
                 Some(Refusal::Unsupported(at, Feature::MixedAssign))

@@ -1,13 +1,8 @@
 -- The faults behind lines and sections, by what these read.
-use Rattle.std.proofs.Common.{◌≡◌, ℕ, true, false, List, [], Some, None, ap}
+use Rattle.project_file.proofs.Common.{◌≡◌, ℕ, true, false, List, [], Some, None, ap, gather, with_names, Around, Part, lead_fault, part_at, part_fault, part_reads, test_at, test_fault, test_reads}
 use Rattle.project_lines.specs.declared.error.ProjectError.TheVariants.{BadLine}
 use Rattle.project_lines.specs.Lines.{is_said}
-use Rattle.project_lines.specs.Paths.{gather, with_names}
-use Rattle.project_options.specs.Options.{Around}
-use Rattle.project_lines.specs.Sections.{Part}
 use Rattle.project_lines.proofs.Reading.{none_where, some_where}
-use Rattle.project_file.specs.Projects.{lead_fault, part_at, part_fault, part_reads}
-use Rattle.project_file.specs.Tests.{test_at, test_fault, test_reads}
 
 pub test_same : (names earlier read : List (List ℕ)) (number : ℕ) (line : List ℕ) → read ≡ with_names names (gather test_reads earlier) → test_at read earlier number line ≡ test_fault names earlier number line
 unfolding test_fault

@@ -82,6 +82,8 @@ only_in known lines = map (range_of known) (args_in (codes "only") lines)
 abbrev pub skip_in : List (List ℕ) → List (List ℕ)
 skip_in lines = args_in (codes "skip") lines
 
+-- For proofs alone.
+
 -- what the lines say beside the tags, the requirement, and the places
 abbrev pub settings_in : List (List ℕ) → Settings
 settings_in lines = record {

@@ -1,17 +1,7 @@
 -- How many files a project reads for its design.
-use Rattle.std.proofs.Common.{◌≡◌, ℕ, ◌+◌, ◌≤◌, true, List, [], length, Option, Some, None, IfSome, bytes_eq, codes, refl, sym, subst, arith}
-use Rattle.std.proofs.lemmas.Slice.Eq.{bytes_eq-Decides}
-use Rattle.std.specs.Str.Lines.{lines}
-use Rattle.project_file.specs.declared.project.Project.{Project}
-use Rattle.project_lines.specs.declared.section.Title.{Title}
-use Rattle.project_lines.specs.declared.section.Title.TheVariants.{Script}
-use Rattle.project_lines.specs.Checks.{first_fault}
-use Rattle.project_lines.specs.Lines.{key_of}
-use Rattle.project_lines.specs.Paths.{gather, with_names}
-use Rattle.project_options.specs.Options.{Around}
-use Rattle.project_file.specs.Projects.{around_in, design_files, design_in, lines_fault, part_fault, part_reads, project_of, IsProject}
-use Rattle.project_lines.specs.Scripts.{script_reads}
-use Rattle.project_lines.specs.Sections.{Part, find_part, lines_in, parts_of, title_of}
+use Rattle.project_limits.proofs.Common.{◌≡◌, ℕ, ◌+◌, ◌≤◌, true, List, [], length, Option, Some, None, IfSome, bytes_eq, codes, refl, sym, subst, arith, bytes_eq-Decides, lines, Project, Title}
+use Rattle.project_limits.proofs.Common.{Script, first_fault, key_of, gather, with_names, Around, around_in, design_files, design_in, lines_fault, part_fault, part_reads, project_of, IsProject}
+use Rattle.project_limits.proofs.Common.{script_reads, Part, find_part, lines_in, parts_of, title_of}
 use Rattle.project_limits.proofs.Headers.{header_good, header_of_word, lines_good, sections_good}
 use Rattle.project_limits.proofs.Lines.{found_good, lines_few}
 

@@ -1,15 +1,7 @@
 -- What holds of sections none of which is bad.
-use Rattle.std.proofs.Common.{◌≡◌, ℕ, ◌+◌, Bool, true, false, ◌&&◌, if◌then◌else◌, List, [], Option, Some, None, bytes_eq, codes, refl, subst, ap, ◌∙◌}
-use Rattle.project_lines.specs.declared.error.ProjectError.TheVariants.{Repeated, OutOfRange}
-use Rattle.project_lines.specs.declared.section.Title.{Title}
-use Rattle.project_lines.specs.declared.section.Title.TheVariants.{Test}
-use Rattle.project_lines.specs.Checks.{first_fault}
-use Rattle.project_lines.specs.Lines.{behind_key, is_filled, key_of}
-use Rattle.project_lines.specs.Paths.{gather, with_names}
-use Rattle.project_options.specs.Options.{Around}
-use Rattle.project_file.specs.Projects.{around_in, fault_of, header_fault, is_test_too_many, lead_fault, lines_fault, missing, part_at, part_fault, part_reads, parts_fault, titled_fault}
-use Rattle.project_lines.specs.Sections.{Part, has_header, lead, name_in, parts_of, plain_title, title_of}
-use Rattle.project_lines.specs.Words.{is_name}
+use Rattle.project_limits.proofs.Common.{◌≡◌, ℕ, ◌+◌, Bool, true, false, ◌&&◌, if◌then◌else◌, List, [], Option, Some, None, bytes_eq, codes, refl, subst, ap, ◌∙◌, Repeated, OutOfRange, Title, Test}
+use Rattle.project_limits.proofs.Common.{first_fault, behind_key, is_filled, key_of, gather, with_names, Around, around_in, fault_of, header_fault, is_test_too_many, lead_fault, lines_fault, missing}
+use Rattle.project_limits.proofs.Common.{part_at, part_fault, part_reads, parts_fault, titled_fault, Part, has_header, lead, name_in, parts_of, plain_title, title_of, is_name}
 use Rattle.project_limits.proofs.Lines.{none_first, none_later}
 
 -- a good header has the title of its first word, if that is not `test`

@@ -1,3 +1,4 @@
+mod Common
 pub mod Sizes
 pub mod Names
 pub mod Lines

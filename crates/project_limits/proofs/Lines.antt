@@ -1,14 +1,9 @@
 -- What holds of lines none of which is bad.
-use Rattle.std.proofs.Common.{◌≡◌, ℕ, ◌+◌, ◌≤◌, ◌<◌, Bool, true, false, cond, if◌then◌else◌, List, [], ◌∷◌, ◌++◌, length, map, Option, Some, None, IfSome, find, refl, sym, subst, arith, append_assoc, append-nil}
-use Rattle.std.proofs.lemmas.Bool.Decides.{nat_tests}
-use Rattle.project_lines.specs.declared.error.ProjectError.{ProjectError}
-use Rattle.project_lines.specs.declared.error.ProjectError.TheVariants.{OutOfRange, UnsupportedCommand}
+use Rattle.project_limits.proofs.Common.{◌≡◌, ℕ, ◌+◌, ◌≤◌, ◌<◌, Bool, true, false, cond, if◌then◌else◌, List, [], ◌∷◌, ◌++◌, length, map, Option, Some, None, IfSome, find, refl, sym, subst, arith}
+use Rattle.project_limits.proofs.Common.{append_assoc, append-nil, nat_tests, ProjectError, OutOfRange, UnsupportedCommand, first_fault, first_of_two, args_of, is_said, key_of, Known, are_too_many}
+use Rattle.project_limits.proofs.Common.{count_fault, gather, path_of, with_names, command_of, first_top, has_strange, read_fault, reads_by, script_at, script_fault, script_line_fault, script_reads}
 use Rattle.project_lines.specs.declared.script.Command.{Command}
 use Rattle.project_lines.specs.declared.script.Command.TheVariants.{Read, Prep, Hierarchy}
-use Rattle.project_lines.specs.Checks.{first_fault, first_of_two}
-use Rattle.project_lines.specs.Lines.{args_of, is_said, key_of}
-use Rattle.project_lines.specs.Paths.{Known, are_too_many, count_fault, gather, path_of, with_names}
-use Rattle.project_lines.specs.Scripts.{command_of, first_top, has_strange, read_fault, reads_by, script_at, script_fault, script_line_fault, script_reads}
 use Rattle.project_lines.proofs.Reading.{gather_push, names_append}
 use Rattle.project_limits.proofs.Names.{never_more}
 

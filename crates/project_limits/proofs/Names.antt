@@ -1,9 +1,7 @@
 -- Names that are taken into two lists are never more in the one that began empty.
-use Rattle.std.proofs.Common.{◌≡◌, ℕ, suc, ◌+◌, ◌≤◌, Bool, true, false, ◌||◌, cond, if◌then◌else◌, List, [], ◌∷◌, ◌++◌, length, refl, sym, ap, subst, ◌∙◌, arith, length-append, bytes_eq}
+use Rattle.project_limits.proofs.Common.{◌≡◌, ℕ, suc, ◌+◌, ◌≤◌, Bool, true, false, ◌||◌, cond, if◌then◌else◌, List, [], ◌∷◌, ◌++◌, length, refl, sym, ap, subst, ◌∙◌, arith, length-append, bytes_eq}
+use Rattle.project_limits.proofs.Common.{bytes_eq-Decides, is_among, with_name, with_names}
 use Rattle.std.proofs.lemmas.List.Folds.{list_any-append}
-use Rattle.std.proofs.lemmas.Slice.Eq.{bytes_eq-Decides}
-use Rattle.project_lines.specs.Words.{is_among}
-use Rattle.project_lines.specs.Paths.{with_name, with_names}
 use Rattle.project_lines.proofs.Reading.{names_cons, names_none}
 
 -- how many of the names are among the few

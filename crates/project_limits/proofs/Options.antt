@@ -1,18 +1,10 @@
 -- What the good lines of `[options]` are: their words have the form of the key, speak of what there is, and are in range.
-use Rattle.std.proofs.Common.{◌≡◌, ℕ, ◌+◌, ◌==◌, ◌&&◌, Bool, true, false, not, if◌then◌else◌, List, [], Option, Some, None, IfSome, bytes_eq, codes, refl, subst, sym}
+use Rattle.project_limits.proofs.Common.{◌≡◌, ℕ, ◌+◌, ◌==◌, ◌&&◌, Bool, true, false, not, if◌then◌else◌, List, [], Option, Some, None, IfSome, bytes_eq, codes, refl, subst, sym, bytes_eq-Decides}
+use Rattle.project_limits.proofs.Common.{ProjectError, BadLine, Repeated, OutOfRange, Title, Options, first_fault, args_of, find_line, has_line, is_filled, is_said, key_of, gather, with_names, Part}
+use Rattle.project_limits.proofs.Common.{find_part, lines_in, title_of, Around, is_option_form, is_option_known, is_option_range, option_fault, option_key, option_key_fault, lines_fault, part_fault}
+use Rattle.project_limits.proofs.Common.{part_reads}
 use Rattle.std.specs.Prelude.{slice_index}
-use Rattle.std.proofs.lemmas.Slice.Eq.{bytes_eq-Decides}
-use Rattle.project_lines.specs.declared.error.ProjectError.{ProjectError}
-use Rattle.project_lines.specs.declared.error.ProjectError.TheVariants.{BadLine, Repeated, OutOfRange}
-use Rattle.project_lines.specs.declared.section.Title.{Title}
-use Rattle.project_lines.specs.declared.section.Title.TheVariants.{Options}
-use Rattle.project_lines.specs.Checks.{first_fault}
-use Rattle.project_lines.specs.Lines.{args_of, find_line, has_line, is_filled, is_said, key_of}
-use Rattle.project_lines.specs.Paths.{gather, with_names}
-use Rattle.project_lines.specs.Sections.{Part, find_part, lines_in, title_of}
 use Rattle.project_options.specs.declared.forms.OptionKey.{OptionKey}
-use Rattle.project_options.specs.Options.{Around, is_option_form, is_option_known, is_option_range, option_fault, option_key, option_key_fault}
-use Rattle.project_file.specs.Projects.{lines_fault, part_fault, part_reads}
 use Rattle.project_limits.proofs.Headers.{header_good, header_of_word, lines_good}
 use Rattle.project_limits.proofs.Lines.{found_good}
 

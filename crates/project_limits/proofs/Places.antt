@@ -1,23 +1,10 @@
 -- The lines whose sites are taken, and the instances whose sites are left out.
-use Rattle.std.proofs.Common.{◌≡◌, ℕ, ◌≤◌, ◌&&◌, Bool, true, if◌then◌else◌, List, [], ◌∷◌, length, map, Option, Some, None, IfSome, codes, nat_le, refl, subst, sym, ap, arith}
-use Rattle.std.specs.Prelude.{IsTrue}
-use Rattle.std.specs.List.{All, list_all}
-use Rattle.std.specs.Str.Lines.{lines}
+use Rattle.project_limits.proofs.Common.{◌≡◌, ℕ, ◌≤◌, ◌&&◌, Bool, true, if◌then◌else◌, List, [], ◌∷◌, length, map, Option, Some, None, IfSome, codes, nat_le, refl, subst, sym, ap, arith, IsTrue, All}
+use Rattle.project_limits.proofs.Common.{list_all, lines, length-map, All-cons, All-nil, args_of, find_line, path_of, Part, lines_in, parts_of, is_among, Only, Skip, Around, is_of_design}
+use Rattle.project_limits.proofs.Common.{is_option_known, is_option_range, option_key, Project, args_in, only_in, range_of, around_in, project_of, IsProject, IsOfDesign}
 use Rattle.std.proofs.lemmas.Bool.{and_parts, le-leb, leb-true}
-use Rattle.std.proofs.lemmas.List.{length-map}
-use Rattle.std.proofs.lemmas.List.Elements.{All-cons, All-nil}
-use Rattle.project_lines.specs.Lines.{args_of, find_line}
 use Rattle.project_lines.specs.Numbers.{is_number, is_within, value, value_within}
-use Rattle.project_lines.specs.Paths.{path_of}
 use Rattle.project_options.specs.Ranges.{file_part, from_part, is_range_within, max_line, to_part}
-use Rattle.project_lines.specs.Sections.{Part, lines_in, parts_of}
-use Rattle.project_lines.specs.Words.{is_among}
-use Rattle.project_options.specs.declared.forms.OptionKey.TheVariants.{Only, Skip}
-use Rattle.project_options.specs.Options.{Around, is_of_design, is_option_known, is_option_range, option_key}
-use Rattle.project_file.specs.declared.project.Project.{Project}
-use Rattle.project_file.specs.Values.{args_in, only_in, range_of}
-use Rattle.project_file.specs.Projects.{around_in, project_of, IsProject}
-use Rattle.project_limits.specs.Laws.{IsOfDesign}
 use Rattle.project_limits.proofs.Headers.{sections_good}
 use Rattle.project_limits.proofs.Options.{AreGood, options_good}
 

@@ -1,18 +1,7 @@
 -- What a project requires of its tags.
-use Rattle.std.proofs.Common.{◌≡◌, ℕ, true, List, [], ◌∷◌, Option, Some, None, IfSome, codes, refl, subst, sym, arith}
-use Rattle.std.specs.Prelude.{IsTrue}
-use Rattle.std.specs.List.{list_all}
-use Rattle.std.specs.Str.Lines.{lines}
+use Rattle.project_limits.proofs.Common.{◌≡◌, ℕ, true, List, [], ◌∷◌, Option, Some, None, IfSome, codes, refl, subst, sym, arith, IsTrue, list_all, lines, args_of, find_line, Part, lines_in, parts_of}
+use Rattle.project_limits.proofs.Common.{is_among, Require, Around, are_tags, is_option_known, option_key, Project, args_in, requirement_in, requirement_of, around_in, project_of, IsProject, IsOfTags}
 use Rattle.std.proofs.lemmas.Bool.{and_parts}
-use Rattle.project_lines.specs.Lines.{args_of, find_line}
-use Rattle.project_lines.specs.Sections.{Part, lines_in, parts_of}
-use Rattle.project_lines.specs.Words.{is_among}
-use Rattle.project_options.specs.declared.forms.OptionKey.TheVariants.{Require}
-use Rattle.project_options.specs.Options.{Around, are_tags, is_option_known, option_key}
-use Rattle.project_file.specs.declared.project.Project.{Project}
-use Rattle.project_file.specs.Values.{args_in, requirement_in, requirement_of}
-use Rattle.project_file.specs.Projects.{around_in, project_of, IsProject}
-use Rattle.project_limits.specs.Laws.{IsOfTags}
 use Rattle.project_limits.proofs.Headers.{sections_good}
 use Rattle.project_limits.proofs.Options.{AreGood, options_good}
 use Rattle.project_limits.proofs.Sizes.{value_from}

@@ -1,12 +1,7 @@
 -- The number of mutations that a project asks for, and that of the lemmas that it gives an equivalence test.
-use Rattle.std.proofs.Common.{◌≡◌, ℕ, ◌≤◌, Bool, true, false, ◌&&◌, if◌then◌else◌, List, nat_le, refl, sym, subst, arith}
-use Rattle.std.proofs.lemmas.Bool.Decides.{nat_tests}
-use Rattle.std.specs.Str.Lines.{lines}
-use Rattle.project_file.specs.declared.project.Project.{Project}
+use Rattle.project_limits.proofs.Common.{◌≡◌, ℕ, ◌≤◌, Bool, true, false, ◌&&◌, if◌then◌else◌, List, nat_le, refl, sym, subst, arith, nat_tests, lines, Project, conflicts_in, number_in, size_in}
+use Rattle.project_limits.proofs.Common.{IsProject, project_of, Part, parts_of}
 use Rattle.project_lines.specs.Numbers.{is_number, is_within, value, value_within}
-use Rattle.project_file.specs.Values.{conflicts_in, number_in, size_in}
-use Rattle.project_file.specs.Projects.{IsProject, project_of}
-use Rattle.project_lines.specs.Sections.{Part, parts_of}
 
 -- a number is in a range
 abbrev pub IsFrom : (least most number : ℕ) → Type 0

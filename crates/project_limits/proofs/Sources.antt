@@ -1,26 +1,14 @@
 -- How many files a project reads in all.
-use Rattle.std.proofs.Common.{◌≡◌, ℕ, ◌+◌, ◌<◌, ◌≤◌, Bool, true, false, not, ◌&&◌, cond, if◌then◌else◌, List, [], ◌∷◌, ◌++◌, length, drop, map, find, filter, Option, None, Some, bytes_eq, codes, slice_index, ◌==◌, refl, sym, ap, subst, ◌∙◌, arith, append_assoc, append-nil}
-use Rattle.std.specs.List.{flat_map}
-use Rattle.std.proofs.lemmas.Slice.Eq.{bytes_eq-Decides}
-use Rattle.std.specs.Str.Lines.{lines}
-use Rattle.project_lines.specs.declared.error.ProjectError.{ProjectError}
-use Rattle.project_lines.specs.declared.error.ProjectError.TheVariants.{BadLine, Repeated}
-use Rattle.project_file.specs.declared.project.Project.{Project}
+use Rattle.project_limits.proofs.Common.{◌≡◌, ℕ, ◌+◌, ◌<◌, ◌≤◌, Bool, true, false, not, ◌&&◌, cond, if◌then◌else◌, List, [], ◌∷◌, ◌++◌, length, drop, map, find, filter, Option, None, Some, bytes_eq}
+use Rattle.project_limits.proofs.Common.{codes, slice_index, ◌==◌, refl, sym, ap, subst, ◌∙◌, arith, append_assoc, append-nil, flat_map, bytes_eq-Decides, lines, ProjectError, BadLine, Repeated}
+use Rattle.project_limits.proofs.Common.{Project, Title, Options, Script, Files, Logic, Report, Test, first_fault, args_of, behind_key, find_line, is_filled, is_said, key_of, count_fault, gather}
+use Rattle.project_limits.proofs.Common.{with_names, Around, around_in, design_in, header_fault, lines_fault, part_fault, part_reads, project_of, reads_in, test_of, titled_fault, IsProject, first_top}
+use Rattle.project_limits.proofs.Common.{script_fault, script_reads, Part, find_part, is_test, lines_in, name_in, parts_of, plain_title, tests_in, title_of, has_line, is_name}
 use Rattle.project_file.specs.declared.project.TestPlan.{TestPlan}
-use Rattle.project_lines.specs.declared.section.Title.{Title}
-use Rattle.project_lines.specs.declared.section.Title.TheVariants.{Options, Script, Files, Logic, Report, Test}
 use Rattle.project_file.specs.declared.test_plan.TestKey.{TestKey}
 use Rattle.project_file.specs.declared.test_plan.TestKey.TheVariants.{Run, Eq, Sim, Pass, Fail, Expect, MaxBatchSize}
-use Rattle.project_lines.specs.Checks.{first_fault}
-use Rattle.project_lines.specs.Lines.{args_of, behind_key, find_line, is_filled, is_said, key_of}
-use Rattle.project_lines.specs.Paths.{count_fault, gather, with_names}
-use Rattle.project_options.specs.Options.{Around}
-use Rattle.project_file.specs.Projects.{around_in, design_in, header_fault, lines_fault, part_fault, part_reads, project_of, reads_in, test_of, titled_fault, IsProject}
-use Rattle.project_lines.specs.Scripts.{first_top, script_fault, script_reads}
-use Rattle.project_lines.specs.Sections.{Part, find_part, is_test, lines_in, name_in, parts_of, plain_title, tests_in, title_of}
-use Rattle.project_file.specs.Tests.{files_by, formed_fault, has_kind, is_clash, is_kind, is_test_form, kind_by, kind_in, known_test_fault, plan_of, test_at, test_fault, test_key, test_key_fault, test_reads}
-use Rattle.project_lines.specs.Lines.{has_line}
-use Rattle.project_lines.specs.Words.{is_name}
+use Rattle.project_file.specs.Tests.{files_by, formed_fault, has_kind, is_clash, is_kind, is_test_form, kind_by, kind_in, known_test_fault, plan_of, test_at, test_fault, test_key, test_key_fault}
+use Rattle.project_file.specs.Tests.{test_reads}
 use Rattle.project_lines.proofs.Reading.{names_append, names_none, names_push}
 use Rattle.project_limits.specs.Files.{all_files, kind_files}
 use Rattle.project_limits.proofs.Headers.{header_good, header_of_word, lines_good, sections_good}

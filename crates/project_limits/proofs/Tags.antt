@@ -1,14 +1,6 @@
 -- How many tags a project has.
-use Rattle.std.proofs.Common.{◌≡◌, ℕ, ◌≤◌, true, List, [], length, Option, Some, None, IfSome, codes, nat_le, refl, sym, subst, arith}
-use Rattle.std.proofs.lemmas.Bool.Decides.{nat_tests}
-use Rattle.std.specs.Str.Lines.{lines}
-use Rattle.project_lines.specs.Lines.{args_of, find_line}
-use Rattle.project_lines.specs.Sections.{Part, lines_in, parts_of}
-use Rattle.project_options.specs.declared.forms.OptionKey.TheVariants.{Tags}
-use Rattle.project_options.specs.Options.{Around, is_option_range, option_key}
-use Rattle.project_file.specs.declared.project.Project.{Project}
-use Rattle.project_file.specs.Values.{args_in}
-use Rattle.project_file.specs.Projects.{around_in, project_of, IsProject}
+use Rattle.project_limits.proofs.Common.{◌≡◌, ℕ, ◌≤◌, true, List, [], length, Option, Some, None, IfSome, codes, nat_le, refl, sym, subst, arith, nat_tests, lines, args_of, find_line, Part, lines_in}
+use Rattle.project_limits.proofs.Common.{parts_of, Tags, Around, is_option_range, option_key, Project, args_in, around_in, project_of, IsProject}
 use Rattle.project_limits.proofs.Headers.{sections_good}
 use Rattle.project_limits.proofs.Options.{AreGood, options_good}
 

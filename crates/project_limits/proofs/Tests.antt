@@ -1,16 +1,7 @@
 -- How many tests a project has.
-use Rattle.std.proofs.Common.{◌≡◌, ℕ, ◌+◌, ◌≤◌, Bool, true, false, cond, List, [], ◌∷◌, ◌++◌, length, None, codes, nat_lt, refl, sym, subst, ap, ◌∙◌, arith, append_assoc, append-nil, length-append}
-use Rattle.std.proofs.lemmas.Bool.Decides.{nat_tests}
-use Rattle.std.proofs.lemmas.List.{length-map}
-use Rattle.std.proofs.lemmas.List.Elements.{filter-append}
-use Rattle.std.proofs.lemmas.Slice.Eq.{bytes_eq-Decides}
-use Rattle.std.specs.Str.Lines.{lines}
-use Rattle.project_file.specs.declared.project.Project.{Project}
-use Rattle.project_lines.specs.Checks.{first_fault}
-use Rattle.project_lines.specs.Lines.{key_of}
-use Rattle.project_options.specs.Options.{Around}
-use Rattle.project_file.specs.Projects.{around_in, part_fault, project_of, test_of, IsProject}
-use Rattle.project_lines.specs.Sections.{Part, is_test, parts_of, tests_in}
+use Rattle.project_limits.proofs.Common.{◌≡◌, ℕ, ◌+◌, ◌≤◌, Bool, true, false, cond, List, [], ◌∷◌, ◌++◌, length, None, codes, nat_lt, refl, sym, subst, ap, ◌∙◌, arith, append_assoc, append-nil}
+use Rattle.project_limits.proofs.Common.{length-append, nat_tests, length-map, filter-append, bytes_eq-Decides, lines, Project, first_fault, key_of, Around, around_in, part_fault, project_of, test_of}
+use Rattle.project_limits.proofs.Common.{IsProject, Part, is_test, parts_of, tests_in}
 use Rattle.project_limits.proofs.Headers.{header_good, room_for_test, sections_good}
 use Rattle.project_limits.proofs.Lines.{head_good, tail_good}
 

@@ -1,9 +1,6 @@
 -- The first fault of lines, one line after the other.
-use Rattle.std.proofs.Common.{◌≡◌, ℕ, ◌+◌, ◌<◌, ◌≤◌, ◌≢◌, List, [], ◌∷◌, ◌++◌, Option, Some, None, Result, Ok, Err, IsErrAnd, length, take, drop, get_or, map, refl, sym, ap, ◌∙◌, subst, arith, add-one, drop-cons, take-suc, drop_of_length-le}
-use Rattle.std.proofs.lemmas.List.{map-append}
-use Rattle.project_lines.specs.declared.error.ProjectError.{ProjectError}
-use Rattle.project_lines.specs.declared.error.ProjectError.TheVariants.{Memory}
-use Rattle.project_lines.specs.Checks.{Checks, first_fault, first_of_two}
+use Rattle.project_lines.proofs.Common.{◌≡◌, ℕ, ◌+◌, ◌<◌, ◌≤◌, ◌≢◌, List, [], ◌∷◌, ◌++◌, Option, Some, None, Result, Ok, Err, IsErrAnd, length, take, drop, get_or, map, refl, sym, ap, ◌∙◌, subst}
+use Rattle.project_lines.proofs.Common.{arith, add-one, drop-cons, take-suc, drop_of_length-le, map-append, ProjectError, Memory, Checks, first_fault, first_of_two}
 
 abbrev Fault : Type 0 → Type 0
 Fault B = List B → ℕ → B → Option ProjectError

@@ -1,13 +1,8 @@
 -- How many lines and sections there are at most.
-use Rattle.std.proofs.Common.{◌≡◌, ℕ, ◌+◌, ◌≤◌, ◌==◌, Bool, true, false, Bor, List, [], ◌∷◌, Option, Some, None, length, map, ap, arith, length-append, if◌then◌else◌}
-use Rattle.std.specs.List.{slice_split}
+use Rattle.project_lines.proofs.Common.{◌≡◌, ℕ, ◌+◌, ◌≤◌, ◌==◌, Bool, true, false, Bor, List, [], ◌∷◌, Option, Some, None, length, map, ap, arith, length-append, if◌then◌else◌, slice_split}
+use Rattle.project_lines.proofs.Common.{length-map, length-slice_split, count_by-le-length, length-filter, header_of, Part, is_test, parts_of, section_at, section_by, seen, tests_in}
 use Rattle.std.specs.Str.Lines.{lines, lines_of_parts}
-use Rattle.std.proofs.lemmas.List.{length-map}
-use Rattle.std.proofs.lemmas.List.Splits.{length-slice_split}
-use Rattle.std.proofs.lemmas.List.Sums.{count_by-le-length, length-filter}
 use Rattle.project_lines.specs.declared.section.Section.{Section}
-use Rattle.project_lines.specs.Lines.{header_of}
-use Rattle.project_lines.specs.Sections.{Part, is_test, parts_of, section_at, section_by, seen, tests_in}
 
 -- Lines.
 

@@ -1,5 +1,6 @@
 -- The paths that lines of `[files]` make known, and the map that holds them.
-use Rattle.std.proofs.Common.{◌≡◌, ℕ, Bool, true, false, cond, ◌&&◌, List, [], ◌∷◌, ◌++◌, Option, Some, None, option_map, is_some, find, bytes_eq, refl, sym, ap, ◌∙◌, subst, Bor, Decides, true≢false, if◌then◌else◌}
+use Rattle.project_lines.proofs.Common.{◌≡◌, ℕ, Bool, true, false, cond, ◌&&◌, List, [], ◌∷◌, ◌++◌, Option, Some, None, option_map, is_some, find, bytes_eq, refl, sym, ap, ◌∙◌, subst, Bor, Decides}
+use Rattle.project_lines.proofs.Common.{true≢false, if◌then◌else◌, find-append, is_said, key_of, Known, find_path, is_path_of, last_part, no_paths, paths_in, with_first, with_line, with_path}
 use Rattle.std.proofs.lemmas.Slice.Eq.{bytes_eq-Decides}
 use Rattle.std.specs.Option.{option_or}
 use Rattle.std.specs.Cmp.Lexicographic.{slice_cmp}
@@ -7,10 +8,7 @@ use Rattle.std.specs.Ordering.{nat_cmp}
 use Rattle.std.specs.Map.{lookup}
 use Rattle.std.specs.BTreeMap.{BTreeMap, IsEmpty, get_by, is_at, UpdatesBy}
 use Rattle.std.proofs.lemmas.Map.Text.{btree_map_updates_str}
-use Rattle.std.proofs.lemmas.List.Folds.{find-append}
 use Rattle.project_lines.specs.declared.paths.Paths.{Paths}
-use Rattle.project_lines.specs.Lines.{is_said, key_of}
-use Rattle.project_lines.specs.Paths.{Known, find_path, is_path_of, last_part, no_paths, paths_in, with_first, with_line, with_path}
 
 same_known : (f g : Known) → ((name : List ℕ) → f name ≡ g name) → f ≡ g
 same_known f g h = λ i name. h name i
@@ -45,7 +43,7 @@ pub no_lines : no_paths ≡ find_path []
 unfolding no_paths find_path
 no_lines = same_known _ _ (λ q. refl)
 
-or_none : {X : Type 0} (o : Option X) → option_or o None ≡ o
+pub or_none : {X : Type 0} (o : Option X) → option_or o None ≡ o
 or_none None = refl
 or_none (Some x) = refl
 

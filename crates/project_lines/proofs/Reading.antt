@@ -1,14 +1,10 @@
 -- The files that lines read, one line after the other.
-use Rattle.std.proofs.Common.{◌≡◌, ℕ, ◌+◌, ◌<◌, ◌≤◌, Bool, true, false, Bor, get_or, map, take, List, [], ◌∷◌, ◌++◌, Option, Some, None, length, refl, sym, ap, ap₂, ◌∙◌, subst, arith, append_assoc, append-nil, length-append, if◌then◌else◌}
+use Rattle.project_lines.proofs.Common.{◌≡◌, ℕ, ◌+◌, ◌<◌, ◌≤◌, Bool, true, false, Bor, get_or, map, take, List, [], ◌∷◌, ◌++◌, Option, Some, None, length, refl, sym, ap, ap₂, ◌∙◌, subst, arith}
+use Rattle.project_lines.proofs.Common.{append_assoc, append-nil, length-append, if◌then◌else◌, nat_tests, ProjectError, OutOfRange, is_among, Known, are_too_many, count_fault, find_path, files_at}
+use Rattle.project_lines.proofs.Common.{files_fault, gather, with_line, with_name, with_names, first_top, script_at, script_fault, script_reads, top_of}
 use Rattle.std.specs.Option.{option_or}
-use Rattle.std.proofs.lemmas.Bool.Decides.{nat_tests}
-use Rattle.project_lines.specs.declared.error.ProjectError.{ProjectError}
-use Rattle.project_lines.specs.declared.error.ProjectError.TheVariants.{OutOfRange}
-use Rattle.project_lines.specs.Words.{is_among}
-use Rattle.project_lines.specs.Paths.{Known, are_too_many, count_fault, find_path, files_at, files_fault, gather, with_line, with_name, with_names}
-use Rattle.project_lines.specs.Scripts.{first_top, script_at, script_fault, script_reads, top_of}
 use Rattle.project_lines.proofs.Faults.{mapped_take}
-use Rattle.project_lines.proofs.Finding.{path_more}
+use Rattle.project_lines.proofs.Finding.{path_more, or_none}
 
 pub names_none : (names : List (List ℕ)) → with_names names [] ≡ names
 unfolding with_names
@@ -53,10 +49,6 @@ names_stay names more l =
     let g : length names ≤ length (with_names names more) = names_grow names more in
     grind (arith, nat_tests)
 
-pub count_none : (names : List (List ℕ)) (number : ℕ) → count_fault names number [] ≡ None
-unfolding count_fault
-count_none names number = refl
-
 pub none_where : (b : Bool) (e : ProjectError) → b ≡ false → (if b then Some e else None) ≡ None
 none_where b e h = ap (λ v. if v then Some e else None) h
 
@@ -88,10 +80,6 @@ script_same known names earlier read top number line e f = ap₂ (λ r t. script
 or_assoc : {X : Type 0} (o p q : Option X) → option_or (option_or o p) q ≡ option_or o (option_or p q)
 or_assoc None p q = refl
 or_assoc (Some x) p q = refl
-
-or_none : {X : Type 0} (o : Option X) → option_or o None ≡ o
-or_none None = refl
-or_none (Some x) = refl
 
 pub top_push : (lines : List (List ℕ)) (line : List ℕ) → first_top (lines ++ line ∷ []) ≡ option_or (first_top lines) (top_of line)
 unfolding first_top

@@ -1,12 +1,8 @@
 -- Blanks and words of a text, and where it may be cut.
-use Rattle.std.proofs.Common.{◌≡◌, ◌≢◌, ◌==◌, take_all, length-drop, true≢false, ℕ, zero, suc, ◌+◌, ◌-◌, ◌<◌, ◌≤◌, Bool, true, false, cond, not, List, [], ◌∷◌, ◌++◌, append_assoc, length, take, drop, get_or, refl, sym, ap, ◌∙◌, subst, arith, IsUtf8, IsCharBoundary, one-add, add-one, filter}
-use Rattle.std.specs.List.{prefix_len, suffix_len, slice_split, onto_first}
-use Rattle.std.proofs.lemmas.Bool.Decides.{nat_tests}
-use Rattle.std.proofs.lemmas.List.Sums.{prefix_len-le-length, prefix_len_passes, prefix_len_stops, suffix_len_is}
-use Rattle.std.proofs.lemmas.List.Splits.{slice_split-cons_yes, slice_split-cons_no}
-use Rattle.std.proofs.lemmas.Str.{IsCharBoundary-start, IsCharBoundary-after_ascii}
-use Rattle.project_lines.specs.Paths.{last_part}
-use Rattle.project_lines.specs.Lines.{behind_word, from_word, front_word, is_blank, is_filled, is_of_word, without_blanks_behind, words}
+use Rattle.project_lines.proofs.Common.{◌≡◌, ◌≢◌, ◌==◌, take_all, length-drop, true≢false, ℕ, zero, suc, ◌+◌, ◌-◌, ◌<◌, ◌≤◌, Bool, true, false, cond, not, List, [], ◌∷◌, ◌++◌, append_assoc, length}
+use Rattle.project_lines.proofs.Common.{take, drop, get_or, refl, sym, ap, ◌∙◌, subst, arith, IsUtf8, IsCharBoundary, one-add, add-one, filter, prefix_len, suffix_len, slice_split, onto_first}
+use Rattle.project_lines.proofs.Common.{nat_tests, prefix_len-le-length, prefix_len_passes, prefix_len_stops, suffix_len_is, slice_split-cons_yes, slice_split-cons_no, IsCharBoundary-start}
+use Rattle.project_lines.proofs.Common.{IsCharBoundary-after_ascii, last_part, behind_word, from_word, front_word, is_blank, is_filled, is_of_word, without_blanks_behind, words}
 
 pub blank-ascii : (b : ℕ) → is_blank b ≡ true → b < 128
 unfolding is_blank

@@ -50,20 +50,6 @@ files_fault earlier number line = files_at (find_path earlier) number line
 unfoldable pub paths_in : Paths → Known
 paths_in m name = option_map (λ path. path.now) (get_by (λ k. slice_cmp nat_cmp name k.now) m.by_last_part)
 
-unfoldable pub no_paths : Known
-no_paths name = None
-
--- the same with this path for a name
-unfoldable pub with_path : Known → List ℕ → Option (List ℕ) → Known
-with_path known name path = update bytes_eq known name path
-
-abbrev pub with_first : Known → List ℕ → Known
-with_first known path = if is_some (known (last_part path)) then known else with_path known (last_part path) (Some path)
-
--- the same behind a line of `[files]`
-unfoldable pub with_line : Known → List ℕ → Known
-with_line known line = if is_said line then with_first known (key_of line) else known
-
 -- The files that are read.
 
 -- the names with one more, which stands there once
@@ -87,3 +73,19 @@ count_fault names number (file ∷ more) = if are_too_many (with_names names (fi
 unfoldable pub gather : {X : Type 0} → (X → List (List ℕ)) → List X → List (List ℕ)
 gather reads [] = []
 gather reads (one ∷ more) = reads one ++ gather reads more
+
+-- For proofs alone.
+
+unfoldable pub no_paths : Known
+no_paths name = None
+
+-- the same with this path for a name
+unfoldable pub with_path : Known → List ℕ → Option (List ℕ) → Known
+with_path known name path = update bytes_eq known name path
+
+abbrev pub with_first : Known → List ℕ → Known
+with_first known path = if is_some (known (last_part path)) then known else with_path known (last_part path) (Some path)
+
+-- the same behind a line of `[files]`
+unfoldable pub with_line : Known → List ℕ → Known
+with_line known line = if is_said line then with_first known (key_of line) else known

@@ -1,6 +1,6 @@
 -- Where `rsplit_once` and `split_once` cut a text, in the words of `specs`.
-use Rattle.std.proofs.Common.{◌≡◌, ◌≢◌, ◌∙◌, ◌==◌, ◌+◌, ◌-◌, ◌<◌, ◌≤◌, ℕ, not, true, false, List, [], ap, sym, arith, drop, drop_of_length-le, get_or, get_or-drop, length, length-drop, take, take_all}
-use Rattle.std.specs.List.{after_first, after_last, before_first, before_last, position_or_len, suffix_len}
+use Rattle.project_options.proofs.Common.{◌≡◌, ◌≢◌, ◌∙◌, ◌==◌, ◌+◌, ◌-◌, ◌<◌, ◌≤◌, ℕ, not, true, false, List, [], ap, sym, arith, drop, drop_of_length-le, get_or, get_or-drop, length, length-drop}
+use Rattle.project_options.proofs.Common.{take, take_all, after_first, after_last, before_first, before_last, position_or_len, suffix_len}
 use Rattle.std.specs.Str.{NoCharPasses}
 use Rattle.std.specs.Str.Pattern.{RFindsChar, SplitsAroundMatch}
 use Rattle.std.proofs.lemmas.Bool.Decides.{nat_tests}

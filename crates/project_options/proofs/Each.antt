@@ -1,9 +1,6 @@
 -- Words one after the other: all pass a test, or none stands there twice.
-use Rattle.std.proofs.Common.{◌≡◌, ◌∙◌, ◌+◌, ◌-◌, ◌<◌, ◌&&◌, ℕ, Bool, Bor, not, true, false, sym, ap, arith, List, drop, get_or, length, length-drop, map, take, take_all}
-use Rattle.std.specs.List.{list_all}
-use Rattle.project_lines.specs.Words.{is_among}
-use Rattle.project_options.specs.Options.{are_once}
-use Rattle.project_lines.proofs.Faults.{mapped_drop}
+use Rattle.project_options.proofs.Common.{◌≡◌, ◌∙◌, ◌+◌, ◌-◌, ◌<◌, ◌&&◌, ℕ, Bool, Bor, not, true, false, sym, ap, arith, List, drop, get_or, length, length-drop, map, take, take_all, list_all}
+use Rattle.project_options.proofs.Common.{is_among, are_once, mapped_drop}
 
 module _ (words : List (Bor (List ℕ))) (i : ℕ) (word : Bor (List ℕ)) (l : i < length words) where
   abbrev texts : List (Bor (List ℕ)) → List (List ℕ)

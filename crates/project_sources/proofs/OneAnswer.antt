@@ -3,7 +3,7 @@ use Rattle.std.proofs.Common.{◌≡◌, ℕ, List, inl, inr, sym, ap, subst, �
 use Rattle.mcy_base.specs.declared.file.SourceFile.{SourceFile}
 use Rattle.netlist_core.specs.declared.raw.RawNetlist.{RawNetlist}
 use Rattle.source_trees.proofs.OneAnswer.{faults_are_one as reading_once, modules_are_one, read_without_fault}
-use Rattle.hier_once.proofs.OneAnswer.{no_refusal, one_netlist, one_refusal}
+use Rattle.hier_once.proofs.OneAnswer.{elaborates, no_refusal, one_netlist, one_refusal}
 pub use Rattle.hier_once.proofs.OneAnswer.{netlist_cells}
 use Rattle.hier_once.specs.Elaborations.{Elaborates}
 use Rattle.hier_once.specs.Refusals.{IsElabRefusal}
@@ -11,12 +11,18 @@ use Rattle.source_faults.specs.declared.fault.SourceError.{SourceError}
 use Rattle.source_faults.specs.Faults.{elab_error, read_error}
 use Rattle.project_sources.specs.declared.netlist.NetlistError.{NetlistError}
 use Rattle.project_sources.specs.declared.netlist.NetlistError.TheVariants.{Source, Memory}
-use Rattle.project_sources.specs.Netlists.{HasNetlist, HasNoNetlist, AreUnread, IsUnmade}
+use Rattle.project_sources.specs.Netlists.{HasNetlist, HasNoNetlist, IsNetlistOf, AreUnread, IsUnmade}
+
+pub netlist_is_one : (files : List SourceFile) (top : List ℕ) (n m : RawNetlist) → IsNetlistOf files top n → IsNetlistOf files top m → n ≡ m
+netlist_is_one files top n m h k =
+    let modules = modules_are_one files k.modules h.modules k.read h.read in
+    one_netlist h.modules top n m h.elaborates (subst (λ ms. Elaborates ms top m) modules k.elaborates)
+
+pub netlist_of : (files : List SourceFile) (top : List ℕ) (n : RawNetlist) → HasNetlist files top n → IsNetlistOf files top n
+netlist_of files top n h = record { modules = h.modules; read = h.read; elaborates = elaborates h.modules top n h.elaborated }
 
 pub netlists_are_one : (files : List SourceFile) (top : List ℕ) (n m : RawNetlist) → HasNetlist files top n → HasNetlist files top m → n ≡ m
-netlists_are_one files top n m h k =
-    let modules = modules_are_one files k.modules h.modules k.read h.read in
-    one_netlist h.modules top n m h.elaborated (subst (λ ms. Elaborates ms top m) modules k.elaborated)
+netlists_are_one files top n m h k = netlist_is_one files top n m (netlist_of files top n h) (netlist_of files top m k)
 
 pub netlist_without_fault : (files : List SourceFile) (top : List ℕ) (n : RawNetlist) (e : SourceError) → HasNetlist files top n → ¬ HasNoNetlist files top e
 netlist_without_fault files top n e has (inl h) = h.found (read_without_fault files has.modules h.fault has.read h.unread)

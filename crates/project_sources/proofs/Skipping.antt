@@ -5,7 +5,8 @@ use Rattle.mcy_base.specs.declared.file.SourceFile.{SourceFile}
 use Rattle.netlist_core.specs.declared.raw.RawNetlist.{RawNetlist}
 use Rattle.vlog_syntax.specs.declared.module.Module.{Module}
 use Rattle.source_trees.proofs.OneAnswer.{modules_are_one}
-use Rattle.hier_once.specs.Elaborations.{Elaborates}
+use Rattle.hier_once.specs.Elaborations.{laid}
+use Rattle.hier_once.specs.Accepted.{IsElaborated}
 use Rattle.cell_scopes.specs.Scopes.{AreSkipped, HasScopes, cell_scopes}
 use Rattle.cell_scopes.proofs.Scoped.{all_scoped, scopes_are_one, skipped_count, skipped_once}
 use Rattle.project_sources.specs.Skipped.{CellsAreTold, HasSkipped, SkipsCells, SkipsOnce}
@@ -30,13 +31,14 @@ skips_found files top [] flags some has = absurd (omega (arith, some))
 skips_found files top (instance ∷ more) flags some has = has
 
 -- a netlist has a scope for each cell
-scopes_count : (modules : List Module) (top : List ℕ) (scopes : List (List ℕ)) (netlist : RawNetlist) → Elaborates modules top netlist → HasScopes modules top scopes → length scopes ≡ length netlist.cells
+scopes_count : (modules : List Module) (top : List ℕ) (scopes : List (List ℕ)) (netlist : RawNetlist) → IsElaborated modules top netlist → HasScopes modules top scopes → length scopes ≡ length netlist.cells
 scopes_count modules top scopes netlist h s =
     let flat = h.source.flat in
     let built = h.has_netlist in
     let same : scopes ≡ cell_scopes flat = scopes_are_one modules top scopes (cell_scopes flat) s (record { flat = flat; flattens = h.is_source.flattens; are = refl }) in
-    let count : length (cell_scopes flat) ≡ length built.last.cells = all_scoped flat h.source.flags built.first built.last built.begins.declared built.builds.all in
-    let kept : length netlist.cells ≡ length built.last.cells = ap length built.ends.cells ∙ length-map built.last.cells _ in
+    let last = laid h.source built.is.first in
+    let count : length (cell_scopes flat) ≡ length last.cells = all_scoped flat h.source.flags built.is.first last built.is.begins built.builds.all in
+    let kept : length netlist.cells ≡ length last.cells = ap length built.is.ends.cells ∙ length-map last.cells _ in
     ap length same ∙ count ∙ sym kept
 
 pub cells_are_told : CellsAreTold

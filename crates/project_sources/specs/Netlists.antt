@@ -10,6 +10,7 @@ use Rattle.source_trees.specs.Faults.{IsUnread}
 use Rattle.hier_once.specs.ElabError.{ElabError}
 use Rattle.hier_once.specs.ElabError.TheVariants.{Memory as NotElaborated}
 use Rattle.hier_once.specs.Elaborations.{Elaborates}
+use Rattle.hier_once.specs.Accepted.{IsElaborated}
 use Rattle.hier_once.specs.Refusals.{IsElabRefusal}
 use Rattle.source_faults.specs.declared.fault.SourceError.{SourceError}
 use Rattle.source_faults.specs.Faults.{elab_error, read_error}
@@ -17,10 +18,16 @@ use Rattle.project_sources.specs.declared.netlist.NetlistError.{NetlistError}
 use Rattle.project_sources.specs.declared.netlist.NetlistError.TheVariants.{Source, Memory}
 
 -- The files are modules, and this is their netlist with the top of this name.
+pub record IsNetlistOf (files : List SourceFile) (top : List ℕ) (netlist : RawNetlist) : Type 0 where
+  pub modules : List Module
+  pub read : AreRead files modules
+  pub elaborates : Elaborates modules top netlist
+
+-- So it is, and nothing in them is refused.
 pub record HasNetlist (files : List SourceFile) (top : List ℕ) (netlist : RawNetlist) : Type 0 where
   pub modules : List Module
   pub read : AreRead files modules
-  pub elaborated : Elaborates modules top netlist
+  pub elaborated : IsElaborated modules top netlist
 
 -- the files are no modules
 pub record HasNoModules (files : List SourceFile) (error : SourceError) : Type 0 where

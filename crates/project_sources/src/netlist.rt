@@ -4,7 +4,7 @@ ghost use Rattle.mcy_base.specs.declared.file.SourceFile.{SourceFile as File};
 ghost use Rattle.netlist_core.specs.declared.raw.RawNetlist.{RawNetlist};
 ghost use Rattle.source_trees.specs.Files.{AreRead};
 ghost use Rattle.source_faults.specs.declared.fault.SourceError.{SourceError as Error};
-ghost use Rattle.project_sources.specs.Netlists.{HasNetlist, HasNoNetlist, AreUnread, IsUnmade};
+ghost use Rattle.project_sources.specs.Netlists.{HasNetlist, HasNoNetlist, IsNetlistOf, AreUnread, IsUnmade};
 
 use crate::checked::CheckedNetlist;
 use hier_once::{ElabError, elaborate};
@@ -55,6 +55,7 @@ pub fn read_netlist(
 ) -> Result<CheckedNetlist, NetlistError>
     requires few { length files.now ≤ 65536 }
     requires short { All (λ f. length f.bytes < 2 ^ 31) files.now }
+    ensures elaborates { IfOk result (IsNetlistOf files.now top.now) }
     ensures netlist { IfOk result (HasNetlist files.now top.now) }
     ensures refused { IfErr result (IsUnmade files.now top.now) }
 {
@@ -68,7 +69,8 @@ pub fn read_netlist(
 
 /// Files have one answer: one netlist or one fault, and never both. So each fault comes just where `read_netlist` says.
 pub fn one_answer()
-    ensures netlists { (files : List File) (top : List ℕ) (n m : RawNetlist) → HasNetlist files top n → HasNetlist files top m → n ≡ m }
+    ensures netlists { (files : List File) (top : List ℕ) (n m : RawNetlist) → IsNetlistOf files top n → IsNetlistOf files top m → n ≡ m }
+    ensures told { (files : List File) (top : List ℕ) (n : RawNetlist) → HasNetlist files top n → IsNetlistOf files top n }
     ensures either { (files : List File) (top : List ℕ) (n : RawNetlist) (e : Error) → HasNetlist files top n → ¬ HasNoNetlist files top e }
     ensures faults { (files : List File) (top : List ℕ) (x y : Error) → HasNoNetlist files top x → HasNoNetlist files top y → x ≡ y }
 {}

@@ -1,11 +1,5 @@
 -- What is asked of a campaign's tester can be run.
-use Rattle.std.proofs.Common.{◌≡◌, arith, ◌<◌, ◌≤◌, length, slice_get, Some, refl}
-use Rattle.campaign_plan.specs.declared.prepared.Prepared.{Prepared}
-use Rattle.campaign_plan.specs.declared.trial.Trial.TheVariants.{Equality}
-use Rattle.campaign_plan.specs.Campaigns.{IsPlan}
-use Rattle.campaign_plan.proofs.Fitted.{plan_trials}
-use Rattle.campaign_plan.proofs.Plans.{plan_kind}
-use Rattle.campaign_core.specs.Testers.{Asked, IsAskable}
+use Rattle.project_tester.proofs.Common.{◌≡◌, arith, ◌<◌, ◌≤◌, length, slice_get, Some, refl, Prepared, Equality, IsPlan, plan_trials, plan_kind, Asked, IsAskable}
 
 module _ (c : Prepared) (asked : Asked) (plan : IsPlan c) (askable : IsAskable (length c.campaign.mutations) c.campaign.kinds asked) where
   -- there is such a test

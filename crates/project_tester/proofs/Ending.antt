@@ -1,28 +1,9 @@
 -- How a test ended is right.
-use Rattle.std.proofs.Common.{◌≡◌, arith, ℕ, List, ◌<◌, Option, None, Some, sym, ap, subst}
-use Rattle.netlist_core.specs.declared.raw.RawNetlist.{RawNetlist}
-use Rattle.netlist_core.specs.Checked.{free_bits}
-use Rattle.lrat_checker.specs.LegalLogs.{IsAttempt, Log}
-use Rattle.step_trials.specs.EqualLaws.{MutantsAreNetlists}
-use Rattle.equiv_test.specs.Jobs.{Job as Comparing}
-use Rattle.equiv_test.specs.declared.verdict.EqVerdict.{EqVerdict}
-use Rattle.equiv_test.specs.declared.verdict.EqVerdict.TheVariants.{NoChange, Change, Unknown}
-use Rattle.equiv_test.specs.Verdicts.{Tells}
-use Rattle.tb_runner.specs.Jobs.{Job as Simulating}
-use Rattle.tb_runner.specs.Simulated.{Says, Simulated}
-use Rattle.tb_turns.specs.declared.verdict.SimVerdict.{SimVerdict}
+use Rattle.project_tester.proofs.Common.{◌≡◌, arith, ℕ, List, ◌<◌, Option, None, Some, sym, ap, subst, RawNetlist, free_bits, IsAttempt, Log, MutantsAreNetlists, Comparing, EqVerdict, NoChange}
+use Rattle.project_tester.proofs.Common.{Change, Unknown, Tells, Simulating, Says, Simulated, SimVerdict, Open, word_code, Prepared, IsPlan, told_verdict, Asked, IsWordIn, Ended, Work, attempt_in}
+use Rattle.project_tester.proofs.Common.{may_give, word_in, HasEnded, IsAttemptOf, IsComparing, IsSimulating, IsWorkOf, TellsAttempt, IsToldBy}
 use Rattle.tb_turns.specs.declared.verdict.SimVerdict.TheVariants as v
-use Rattle.result_book.specs.declared.script.TestWord.TheVariants.{Unknown as Open}
-use Rattle.result_book.specs.Scripts.{word_code}
-use Rattle.campaign_plan.specs.declared.prepared.Prepared.{Prepared}
-use Rattle.campaign_plan.specs.Campaigns.{IsPlan}
-use Rattle.campaign_run.specs.Simulated.{told_verdict}
-use Rattle.campaign_core.specs.Testers.{Asked, IsWordIn}
-use Rattle.project_tester.specs.declared.job.Ended.{Ended}
-use Rattle.project_tester.specs.declared.job.Work.{Work}
 use Rattle.project_tester.specs.declared.job.Work.TheVariants as work
-use Rattle.project_tester.specs.ProjectJobs.{attempt_in, may_give, word_in, HasEnded, IsAttemptOf, IsComparing, IsSimulating, IsWorkOf, TellsAttempt}
-use Rattle.project_tester.specs.JobTurns.{IsToldBy}
 use Rattle.project_tester.proofs.Verdicts.{right_sim_word, right_word, told_word}
 use Rattle.project_tester.proofs.Words.{plan_word}
 

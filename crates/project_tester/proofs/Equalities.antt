@@ -1,18 +1,8 @@
 -- An equality at its start, and after a turn.
-use Rattle.std.proofs.Common.{◌≡◌, ◌∙◌, ◌<◌, ◌≤◌, ◌+◌, ℕ, length, slice_get, Option, None, Some, Result, Ok, Err, refl, sym, ap, subst}
-use Rattle.std.specs.Prelude.{MatchResult}
-use Rattle.netlist_core.specs.Checked.{Plan, IsSound}
-use Rattle.step_trials.specs.EqualLaws.{MutantsAreNetlists}
-use Rattle.equiv_test.specs.Jobs.{Job as Comparing, IsGoing, IsNew, IsSameTest, lemmas_of}
-use Rattle.campaign_plan.specs.declared.prepared.Prepared.{Prepared}
-use Rattle.campaign_plan.specs.declared.trial.Trial.{Trial}
-use Rattle.campaign_plan.specs.declared.trial.Trial.TheVariants.{Equality}
-use Rattle.campaign_run.specs.Rows.{IsBrokenAt}
-use Rattle.campaign_core.specs.Testers.{Asked}
-use Rattle.project_tester.specs.declared.job.Ended.{Ended}
+use Rattle.project_tester.proofs.Common.{◌≡◌, ◌∙◌, ◌<◌, ◌≤◌, ◌+◌, ℕ, length, slice_get, Option, None, Some, Result, Ok, Err, refl, sym, ap, subst, MatchResult, Plan, IsSound, MutantsAreNetlists}
+use Rattle.project_tester.proofs.Common.{Comparing, IsGoing, IsNew, IsSameTest, lemmas_of, Prepared, Trial, Equality, IsBrokenAt, Asked, Ended, lemma_turns, most_by, turns_in, word_in, HasBegun}
+use Rattle.project_tester.proofs.Common.{IsComparing, ComesTo, ComparesTo, GoesOn}
 use Rattle.project_tester.specs.declared.job.Work.TheVariants as work
-use Rattle.project_tester.specs.ProjectJobs.{lemma_turns, most_by, turns_in, word_in, HasBegun, IsComparing}
-use Rattle.project_tester.specs.JobTurns.{ComesTo, ComparesTo, GoesOn}
 use Rattle.project_tester.proofs.Ending.{equality_ended}
 use Rattle.project_tester.proofs.Lefts.{all_lemmas, fewer_lemmas}
 

@@ -1,14 +1,7 @@
 -- A bench that fits a design fits its mutants.
-use Rattle.std.proofs.Common.{ℕ, List, length, map, slice_get, None, Some, sym, ap, ◌∙◌}
+use Rattle.project_tester.proofs.Common.{ℕ, List, length, map, slice_get, None, Some, sym, ap, ◌∙◌, RawNetlist, Site, Parts, FitsDesign, Prepared, IsMutantAt, IsBroken, IsBrokenAt}
 use Rattle.netlist_core.specs.declared.port.Port as port
-use Rattle.netlist_core.specs.declared.raw.RawNetlist.{RawNetlist}
 use Rattle.netlist_core.specs.Runs.{bits_at}
-use Rattle.mutation_sites.specs.declared.site.Site.{Site}
-use Rattle.tb_bench.specs.declared.parts.Parts.{Parts}
-use Rattle.tb_bench.specs.Runnable.{FitsDesign}
-use Rattle.campaign_plan.specs.declared.prepared.Prepared.{Prepared}
-use Rattle.campaign_run.specs.GivenUp.{IsMutantAt}
-use Rattle.campaign_run.specs.Rows.{IsBroken, IsBrokenAt}
 
 -- a mutant's ports are as wide as the design's
 fits_mutant : (bench : Parts) (netlist mutated : RawNetlist) (site : Site) → FitsDesign bench netlist → IsMutantAt netlist mutated site → FitsDesign bench mutated

@@ -1,9 +1,5 @@
 -- Turns without a word are counted down.
-use Rattle.std.proofs.Common.{◌≡◌, arith, ℕ, ◌+◌, ◌-◌, ◌/◌, ◌<◌, ◌≤◌}
-use Rattle.std.specs.Prelude.{max}
-use Rattle.tb_machine.specs.Simulations.{phases_of}
-use Rattle.tb_turns.specs.Reached.{phases_after}
-use Rattle.project_tester.specs.ProjectJobs.{turns_in}
+use Rattle.project_tester.proofs.Common.{◌≡◌, arith, ℕ, ◌+◌, ◌-◌, ◌/◌, ◌<◌, ◌≤◌, max, phases_of, phases_after, turns_in}
 
 -- a new equality has at most the lemmas of its bound before it
 pub all_lemmas : (limit bound lemmas : ℕ) → limit ≡ bound → turns_in (limit - lemmas) ≤ turns_in bound

@@ -1,22 +1,8 @@
 -- A simulation at its start, and after a turn.
-use Rattle.std.proofs.Common.{◌≡◌, ◌∙◌, ◌<◌, ◌≤◌, ℕ, List, slice_get, Option, None, Some, false, refl, sym, ap, subst}
-use Rattle.netlist_core.specs.Checked.{Plan, IsSound}
-use Rattle.tb_machine.specs.Simulations.{phases_of}
-use Rattle.tb_turns.specs.Reached.{phases_after}
-use Rattle.tb_bench.specs.declared.parts.Parts.{Parts}
-use Rattle.tb_bench.specs.Runnable.{FitsDesign, IsRunnable}
-use Rattle.tb_runner.specs.Jobs.{Job as Simulating, IsSameJob, new_job}
-use Rattle.campaign_plan.specs.declared.prepared.Prepared.{Prepared}
-use Rattle.campaign_plan.specs.declared.trial.Trial.{Trial}
-use Rattle.campaign_plan.specs.declared.trial.Trial.TheVariants.{Simulation}
-use Rattle.campaign_plan.proofs.Fitted.{plan_fits}
-use Rattle.campaign_run.specs.Limits.{IsTestable}
-use Rattle.campaign_run.specs.Rows.{IsBrokenAt}
-use Rattle.campaign_core.specs.Testers.{Asked}
-use Rattle.project_tester.specs.declared.job.Ended.{Ended}
+use Rattle.project_tester.proofs.Common.{◌≡◌, ◌∙◌, ◌<◌, ◌≤◌, ℕ, List, slice_get, Option, None, Some, false, refl, sym, ap, subst, Plan, IsSound, phases_of, phases_after, Parts, FitsDesign, IsRunnable}
+use Rattle.project_tester.proofs.Common.{Simulating, IsSameJob, new_job, Prepared, Trial, Simulation, plan_fits, IsTestable, IsBrokenAt, Asked, Ended, cycle_turns, most_by, HasBegun, IsSimulating}
+use Rattle.project_tester.proofs.Common.{ComesTo, GoesOn, SimulatesTo}
 use Rattle.project_tester.specs.declared.job.Work.TheVariants as work
-use Rattle.project_tester.specs.ProjectJobs.{cycle_turns, most_by, HasBegun, IsSimulating}
-use Rattle.project_tester.specs.JobTurns.{ComesTo, GoesOn, SimulatesTo}
 use Rattle.project_tester.proofs.Ending.{simulation_ended}
 use Rattle.project_tester.proofs.Fitting.{fits_at}
 use Rattle.project_tester.proofs.Lefts.{all_cycles, fewer_cycles}

@@ -1,30 +1,11 @@
 -- What a test of a mutant finds is a right word.
-use Rattle.std.proofs.Common.{◌≡◌, ℕ, ◌<◌, ◌≤◌, ◌⊎◌, List, length, get_or, slice_get, Option, None, Some, inl, inr, refl, sym, subst}
+use Rattle.project_tester.proofs.Common.{◌≡◌, ℕ, ◌<◌, ◌≤◌, ◌⊎◌, List, length, get_or, slice_get, Option, None, Some, inl, inr, refl, sym, subst, RawNetlist, Plan, IsSound, free_bits, Log, IsAttempt}
+use Rattle.project_tester.proofs.Common.{Site, MutantsAreNetlists, EqVerdict, NoChange, Change, Unknown, Tells, Pass, Fail, Open, word_code, Prepared, Parts, FitsDesign, IsRunnable, Says, SimVerdict}
+use Rattle.project_tester.proofs.Common.{Trial, Equality, Simulation, told_verdict, IsSimulated, IsTestable, HasAttempt, IsMutantAt, IsBroken, IsBrokenAt, IsGivenUpAt, IsRightWord, IsSaid}
+use Rattle.project_tester.proofs.Common.{IsTrueWordAt, HasEachRun, HasOneMore, HasSameNames, HasSameShapes, RunsAlike}
 use Rattle.std.proofs.lemmas.Option.{slice_get-get_or}
-use Rattle.netlist_core.specs.declared.raw.RawNetlist.{RawNetlist}
-use Rattle.netlist_core.specs.Checked.{Plan, IsSound, free_bits}
-use Rattle.lrat_checker.specs.LegalLogs.{Log, IsAttempt}
-use Rattle.mutation_sites.specs.declared.site.Site.{Site}
 use Rattle.step_trials.specs.Equal.{OneStepEqual, design, mutant}
-use Rattle.step_trials.specs.EqualLaws.{MutantsAreNetlists}
 use Rattle.pair_gates.specs.Copies.{pair_clauses}
-use Rattle.equiv_test.specs.declared.verdict.EqVerdict.{EqVerdict}
-use Rattle.equiv_test.specs.declared.verdict.EqVerdict.TheVariants.{NoChange, Change, Unknown}
-use Rattle.equiv_test.specs.Verdicts.{Tells}
-use Rattle.result_book.specs.declared.script.TestWord.TheVariants.{Pass, Fail, Unknown as Open}
-use Rattle.result_book.specs.Scripts.{word_code}
-use Rattle.campaign_plan.specs.declared.prepared.Prepared.{Prepared}
-use Rattle.tb_bench.specs.declared.parts.Parts.{Parts}
-use Rattle.tb_bench.specs.Runnable.{FitsDesign, IsRunnable}
-use Rattle.tb_runner.specs.Simulated.{Says}
-use Rattle.tb_turns.specs.declared.verdict.SimVerdict.{SimVerdict}
-use Rattle.campaign_plan.specs.declared.trial.Trial.{Trial}
-use Rattle.campaign_plan.specs.declared.trial.Trial.TheVariants.{Equality, Simulation}
-use Rattle.campaign_run.specs.Simulated.{told_verdict, IsSimulated}
-use Rattle.campaign_run.specs.Limits.{IsTestable}
-use Rattle.campaign_run.specs.GivenUp.{HasAttempt, IsMutantAt}
-use Rattle.campaign_run.specs.Rows.{IsBroken, IsBrokenAt, IsGivenUpAt, IsRightWord, IsSaid, IsTrueWordAt}
-use Rattle.mutation_sites.specs.Mutants.{HasEachRun, HasOneMore, HasSameNames, HasSameShapes, RunsAlike}
 use Rattle.pair_gates.specs.Laws.{MutantsAreAccepted}
 use Rattle.pair_gates.specs.Refusals.{max_free, IsAccepted}
 use Rattle.pair_gates.specs.Weights.{design_gates, max_design_gates}

@@ -1,18 +1,9 @@
 -- A right word is one that the kind of its test has.
-use Rattle.std.proofs.Common.{◌≡◌, ◌≢◌, arith, ℕ, ◌⊎◌, slice_get, Option, None, Some, inl, inr, refl, sym, subst}
-use Rattle.std.specs.Prelude.{IsSomeAnd}
-use Rattle.mutation_sites.specs.declared.site.Site.{Site}
+use Rattle.project_tester.proofs.Common.{◌≡◌, ◌≢◌, arith, ℕ, ◌⊎◌, slice_get, Option, None, Some, inl, inr, refl, sym, subst, IsSomeAnd, Site, SimVerdict, Prepared, Trial, Equality, Simulation, IsPlan}
+use Rattle.project_tester.proofs.Common.{plan_kind, told_verdict, IsGivenUpAt, IsRightWord, IsTrueWordAt}
 use Rattle.result_book.specs.Campaigns.{eq_kind, sim_kind, IsSimWord, IsWordOf, IsWordOfKind}
-use Rattle.tb_turns.specs.declared.verdict.SimVerdict.{SimVerdict}
 use Rattle.tb_turns.specs.declared.verdict.SimVerdict.TheVariants as v
-use Rattle.campaign_plan.specs.declared.prepared.Prepared.{Prepared}
-use Rattle.campaign_plan.specs.declared.trial.Trial.{Trial}
-use Rattle.campaign_plan.specs.declared.trial.Trial.TheVariants.{Equality, Simulation}
-use Rattle.campaign_plan.specs.Campaigns.{IsPlan}
 use Rattle.campaign_plan.specs.Laws.{code_of}
-use Rattle.campaign_plan.proofs.Plans.{plan_kind}
-use Rattle.campaign_run.specs.Simulated.{told_verdict}
-use Rattle.campaign_run.specs.Rows.{IsGivenUpAt, IsRightWord, IsTrueWordAt}
 
 sim_is_word : (verdict : SimVerdict) (word : ℕ) → word ≡ told_verdict verdict → IsSimWord word
 sim_is_word v.Pass word is = inl is

@@ -1,16 +1,7 @@
 -- The turns of a job's work, from those of its equality or of its simulation.
-use Rattle.std.proofs.Common.{◌≡◌, Option, None, Result, false, sym, ap, subst}
-use Rattle.std.specs.Prelude.{MatchResult}
-use Rattle.step_trials.specs.EqualLaws.{MutantsAreNetlists}
-use Rattle.equiv_test.specs.Jobs.{Job as Comparing, IsGoing, IsSameTest}
-use Rattle.tb_runner.specs.Jobs.{Job as Simulating, IsSameJob}
-use Rattle.campaign_plan.specs.declared.prepared.Prepared.{Prepared}
-use Rattle.campaign_core.specs.Testers.{Asked}
-use Rattle.project_tester.specs.declared.job.Ended.{Ended}
-use Rattle.project_tester.specs.declared.job.Work.{Work}
+use Rattle.project_tester.proofs.Common.{◌≡◌, Option, None, Result, false, sym, ap, subst, MatchResult, MutantsAreNetlists, Comparing, IsGoing, IsSameTest, Simulating, IsSameJob, Prepared, Asked}
+use Rattle.project_tester.proofs.Common.{Ended, Work, word_in, IsWorkOf, CanGoOn, ComesTo, ComparesTo, GoesOn, SimulatesTo}
 use Rattle.project_tester.specs.declared.job.Work.TheVariants as work
-use Rattle.project_tester.specs.ProjectJobs.{word_in, IsWorkOf}
-use Rattle.project_tester.specs.JobTurns.{CanGoOn, ComesTo, ComparesTo, GoesOn, SimulatesTo}
 use Rattle.project_tester.proofs.Equalities.{compared_kept, compared_turned}
 use Rattle.project_tester.proofs.Simulations.{simulated_kept, simulated_turned}
 

@@ -17,6 +17,8 @@ use Rattle.project_tester.specs.declared.job.Work.{Work}
 use Rattle.project_tester.specs.declared.job.Work.TheVariants as work
 use Rattle.project_tester.specs.ProjectJobs.{cycle_turns, left_in, lemma_turns, word_in, HasEnded, IsWorkOf}
 
+-- For proofs alone.
+
 -- how an equality that ended with this verdict is told
 abbrev pub IsToldBy : EqVerdict → Ended → Type 0
 IsToldBy (NoChange refutation) ended = (word_code ended.word ≡ word_code Pass) × (ended.attempt ≡ None)

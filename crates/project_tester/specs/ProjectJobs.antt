@@ -142,6 +142,8 @@ IsWorkOf c asked (work.Over ended) = HasEnded c asked ended
 abbrev pub IsJobOf : Prepared → ProjectJob → Type 0
 IsJobOf c job = IsWorkOf c (asked_in job) job.work
 
+-- For proofs alone.
+
 -- a job at its start: it has no word, and at most so many turns before it
 pub record HasBegun (c : Prepared) (asked : Asked) (w : Work) : Type 0 where
   pub is : IsWorkOf c asked w

@@ -1,4 +1,3 @@
-pub mod Fitting
 pub mod FormatList
 pub mod Rooms
 pub mod ShareList

@@ -1,40 +1,24 @@
 -- The parting of tokens, one share after the other.
-use Rattle.std.proofs.Common.{◌≡◌, ℕ, suc, ◌+◌, ◌-◌, ◌<◌, ◌≤◌, ◌==◌, ◌&&◌, Bool, true, false, List, [], ◌∷◌, ◌++◌, Option, Some, None, option_map, drop, take, get_or, length, refl, sym, ap, ◌∙◌, arith, append_assoc, append-nil, if◌then◌else◌}
-use Rattle.std.proofs.lemmas.List.{at_drop_more, at_drop_all, take_all}
+use Rattle.std.proofs.Common.{◌≡◌, ℕ, suc, ◌-◌, ◌<◌, ◌≤◌, ◌==◌, ◌&&◌, Bool, true, false, List, [], ◌∷◌, ◌++◌, Option, Some, None, option_map, drop, take, get_or, length, refl, sym, ap, ◌∙◌, arith, append_assoc, append-nil, if◌then◌else◌}
+use Rattle.std.proofs.lemmas.List.{take_all}
 use Rattle.script_lines.specs.declared.token.Token.{Token}
-use Rattle.tag_lines.specs.Grammar.{open_behind}
+use Rattle.script_lines.specs.Parting.{front_len, open_behind}
 use Rattle.report_lines.specs.declared.parting.Level.{Level}
-use Rattle.report_lines.specs.Grammar.{Share, all_of, front_len, is_sign, share_of, shares_at, shares_behind}
-
--- How many tokens stand before a sign.
-
-front_at : (l : Level) (o : ℕ) (ts : List Token) (n : ℕ) (t : Token) → n < length ts → t ≡ get_or ts n t → front_len l o (drop n ts) ≡ (if o == 0 && is_sign l t then 0 else suc (front_len l (open_behind o t) (drop (n + 1) ts)))
-unfolding front_len
-front_at l o ts n t h e = at_drop_more (front_len l o) ts n t h ∙ ap (λ (x : Token). if o == 0 && is_sign l x then 0 else suc (front_len l (open_behind o x) (drop (n + 1) ts))) (sym e)
-
-pub front_here : (l : Level) (o : ℕ) (ts : List Token) (n : ℕ) (t : Token) → n < length ts → t ≡ get_or ts n t → (o == 0 && is_sign l t) ≡ true → front_len l o (drop n ts) ≡ 0
-front_here l o ts n t h e here = front_at l o ts n t h e ∙ ap (λ (b : Bool). if b then 0 else suc (front_len l (open_behind o t) (drop (n + 1) ts))) here
-
-pub front_next : (l : Level) (o : ℕ) (ts : List Token) (n : ℕ) (t : Token) → n < length ts → t ≡ get_or ts n t → (o == 0 && is_sign l t) ≡ false → front_len l o (drop n ts) ≡ suc (front_len l (open_behind o t) (drop (n + 1) ts))
-front_next l o ts n t h e here = front_at l o ts n t h e ∙ ap (λ (b : Bool). if b then 0 else suc (front_len l (open_behind o t) (drop (n + 1) ts))) here
-
-pub front_end : (l : Level) (o : ℕ) (ts : List Token) (n : ℕ) → length ts ≤ n → front_len l o (drop n ts) ≡ 0
-unfolding front_len
-front_end l o ts n h = at_drop_all (front_len l o) ts n h
+use Rattle.report_lines.specs.Grammar.{Share, all_of, is_sign, share_of, shares_at, shares_behind}
 
 -- Shares.
 
-behind_if : (l : Level) (t : Token) (more : List Token) (o : ℕ) (b : Bool) → shares_behind l o more ≡ shares_at l (drop (front_len l o more) more) → (if b then share_of l t more ∷ shares_behind l 0 more else shares_behind l o more) ≡ shares_at l (drop (if b then 0 else suc (front_len l o more)) (t ∷ more))
+behind_if : (l : Level) (t : Token) (more : List Token) (o : ℕ) (b : Bool) → shares_behind l o more ≡ shares_at l (drop (front_len (is_sign l) o more) more) → (if b then share_of l t more ∷ shares_behind l 0 more else shares_behind l o more) ≡ shares_at l (drop (if b then 0 else suc (front_len (is_sign l) o more)) (t ∷ more))
 unfolding shares_at
 behind_if l t more o true h = refl
 behind_if l t more o false h = h
 
-behind_is : (l : Level) (o : ℕ) (ts : List Token) → shares_behind l o ts ≡ shares_at l (drop (front_len l o ts) ts)
+behind_is : (l : Level) (o : ℕ) (ts : List Token) → shares_behind l o ts ≡ shares_at l (drop (front_len (is_sign l) o ts) ts)
 unfolding shares_behind shares_at front_len
 behind_is l o [] = refl
 behind_is l o (t ∷ more) = behind_if l t more (open_behind o t) (o == 0 && is_sign l t) (behind_is l (open_behind o t) more)
 
-share_more : (l : Level) (t : Token) (more : List Token) → shares_at l (t ∷ more) ≡ share_of l t more ∷ shares_at l (drop (front_len l 0 more) more)
+share_more : (l : Level) (t : Token) (more : List Token) → shares_at l (t ∷ more) ≡ share_of l t more ∷ shares_at l (drop (front_len (is_sign l) 0 more) more)
 unfolding shares_at
 share_more l t more = ap (λ (shares : List Share). share_of l t more ∷ shares) (behind_is l 0 more)
 
@@ -43,7 +27,7 @@ cons_is [] more sign l e m = absurd (omega arith)
 cons_is (x ∷ xs) more sign l e m = ap (λ (y : Token). y ∷ xs) (sym e) ∙ ap (λ (ys : List Token). sign ∷ ys) (sym (take_all (suc (length xs) - 1) xs (omega arith)) ∙ sym m)
 
 -- a sign, with `more` behind it, of which `front` are its share and `new` are left
-cut_is : (l : Level) (rest more front new : List Token) (sign : Token) (len : ℕ) → 1 ≤ length rest → sign ≡ get_or rest 0 sign → more ≡ take (length rest - 1) (drop 1 rest) → len ≡ front_len l 0 more → front ≡ take len more → new ≡ drop len more → shares_at l rest ≡ record { sign = sign; tokens = front } ∷ shares_at l new
+cut_is : (l : Level) (rest more front new : List Token) (sign : Token) (len : ℕ) → 1 ≤ length rest → sign ≡ get_or rest 0 sign → more ≡ take (length rest - 1) (drop 1 rest) → len ≡ front_len (is_sign l) 0 more → front ≡ take len more → new ≡ drop len more → shares_at l rest ≡ record { sign = sign; tokens = front } ∷ shares_at l new
 cut_is l rest more front new sign len h e m n f d =
     ap (shares_at l) (cons_is rest more sign h e m)
     ∙ (share_more l sign more
@@ -59,10 +43,6 @@ first_same (x ∷ xs) d h = refl
 
 abbrev pub behind : {A : Type 0} → List A → Option (List A) → Option (List A)
 behind done o = option_map (λ xs. done ++ xs) o
-
-join_none : {A : Type 0} (o : Option (List A)) → behind [] o ≡ o
-join_none None = refl
-join_none (Some xs) = refl
 
 join_more : {A : Type 0} (done : List A) (x : A) (o : Option (List A)) → behind (done ++ x ∷ []) o ≡ behind done (option_map (λ xs. x ∷ xs) o)
 join_more done x None = refl
@@ -80,15 +60,12 @@ all_end make = refl
 abbrev pub Whole : {A : Type 0} → (Share → Option A) → Level → List A → List Token → List Token → Type 0
 Whole make l done rest tokens = behind done (all_of make (shares_at l rest)) ≡ all_of make (shares_at l tokens)
 
-pub whole_first : {A : Type 0} (make : Share → Option A) (l : Level) (done : List A) (tokens : List Token) → done ≡ [] → Whole make l done tokens tokens
-whole_first {A} make l done tokens e = ap (λ (d : List A). behind d (all_of make (shares_at l tokens))) e ∙ join_none (all_of make (shares_at l tokens))
-
 pub whole_end : {A : Type 0} (make : Share → Option A) (l : Level) (done : List A) (rest tokens : List Token) → length rest < 1 → Whole make l done rest tokens → all_of make (shares_at l tokens) ≡ Some done
 unfolding shares_at
 whole_end make l done [] tokens h w = sym w ∙ (ap (behind done) (all_end make) ∙ ap Some (append-nil done))
 whole_end make l done (t ∷ more) tokens h w = absurd (omega arith)
 
-module _ {A : Type 0} (make : Share → Option A) (l : Level) (done : List A) (tokens rest more front new : List Token) (sign : Token) (len : ℕ) (some : 1 ≤ length rest) (first : sign ≡ get_or rest 0 sign) (others : more ≡ take (length rest - 1) (drop 1 rest)) (many : len ≡ front_len l 0 more) (cut : front ≡ take len more) (left : new ≡ drop len more) (whole : Whole make l done rest tokens) where
+module _ {A : Type 0} (make : Share → Option A) (l : Level) (done : List A) (tokens rest more front new : List Token) (sign : Token) (len : ℕ) (some : 1 ≤ length rest) (first : sign ≡ get_or rest 0 sign) (others : more ≡ take (length rest - 1) (drop 1 rest)) (many : len ≡ front_len (is_sign l) 0 more) (cut : front ≡ take len more) (left : new ≡ drop len more) (whole : Whole make l done rest tokens) where
   one_step : (o : Option A) → make (record { sign = sign; tokens = front }) ≡ o → behind done (elim o [ None ↦ None | Some x ↦ option_map (λ xs. x ∷ xs) (all_of make (shares_at l new)) ]) ≡ all_of make (shares_at l tokens)
   one_step o e =
       ap (behind done) (sym (ap (all_of make) (cut_is l rest more front new sign len some first others many cut left) ∙ made_is make (record { sign = sign; tokens = front }) (shares_at l new) o e))

@@ -6,7 +6,8 @@ use Rattle.script_lines.specs.declared.keyword.Keyword.TheVariants as key
 use Rattle.script_lines.specs.declared.token.Token.{Token}
 use Rattle.script_lines.specs.declared.token.Token.TheVariants as token
 use Rattle.project_lines.specs.Numbers.{value}
-use Rattle.tag_lines.specs.Grammar.{argument_of, before_symbol, is_symbol, open_behind, place_of}
+use Rattle.script_lines.specs.Parting.{front_len, is_symbol, open_behind}
+use Rattle.tag_lines.specs.Grammar.{argument_of, before_symbol, place_of}
 use Rattle.report_lines.specs.declared.expr.Expr.{Expr}
 use Rattle.report_lines.specs.declared.expr.Expr.TheVariants as e
 use Rattle.report_lines.specs.declared.expr.Operator.{Operator}
@@ -60,18 +61,13 @@ abbrev pub is_sign : Level → Token → Bool
 is_sign level.Comma t = is_symbol 44 t
 is_sign l t = is_some_at l (operator_of t)
 
--- how many tokens stand before the first sign outside parentheses, of which so many are open
-unfoldable pub front_len : Level → ℕ → List Token → ℕ
-front_len l opened [] = 0
-front_len l opened (t ∷ more) = if opened == 0 && is_sign l t then 0 else suc (front_len l (open_behind opened t) more)
-
 -- a sign, and what stands behind it up to the next one
 pub record Share : Type 0 where
   pub sign : Token
   pub tokens : List Token
 
 abbrev pub share_of : Level → Token → List Token → Share
-share_of l t more = record { sign = t; tokens = take (front_len l 0 more) more }
+share_of l t more = record { sign = t; tokens = take (front_len (is_sign l) 0 more) more }
 
 -- the shares of the signs outside parentheses, of which so many are open
 unfoldable pub shares_behind : Level → ℕ → List Token → List Share
@@ -164,7 +160,7 @@ joined_to l (Some value) terms = joined l value terms
 -- what stands in front of the first sign, and the terms behind it
 unfoldable pub chain : Level → Reader → Reader
 chain l reader tokens =
-    let n = front_len l 0 tokens in
+    let n = front_len (is_sign l) 0 tokens in
     joined_to l (reader (take n tokens)) (all_of (term_in reader) (shares_at l (drop n tokens)))
 
 abbrev pub negated : Option Expr → Option Expr
@@ -192,14 +188,16 @@ operand tags (suc room) = negation tags (operand tags room) (disjunction (operan
 unfoldable pub expression : List (List ℕ) → ℕ → Reader
 expression tags room = disjunction (operand tags room)
 
+unfoldable pub inner : List (List ℕ) → ℕ → Reader
+inner tags zero = nothing
+inner tags (suc room) = expression tags room
+
+-- For proofs alone.
+
 -- the readers inside one construct more, where so many may be open
 unfoldable pub deeper : List (List ℕ) → ℕ → Reader
 deeper tags zero = nothing
 deeper tags (suc room) = operand tags room
-
-unfoldable pub inner : List (List ℕ) → ℕ → Reader
-inner tags zero = nothing
-inner tags (suc room) = expression tags room
 
 -- the reader of what stands between the signs of a level
 unfoldable pub part : List (List ℕ) → ℕ → Level → Reader

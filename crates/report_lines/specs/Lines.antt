@@ -4,7 +4,8 @@ use Rattle.script_lines.specs.declared.keyword.Keyword.{Keyword}
 use Rattle.script_lines.specs.declared.keyword.Keyword.TheVariants as key
 use Rattle.script_lines.specs.declared.token.Token.{Token}
 use Rattle.script_lines.specs.declared.token.Token.TheVariants as token
-use Rattle.tag_lines.specs.Grammar.{before_symbol, is_last, is_symbol}
+use Rattle.script_lines.specs.Parting.{front_len, is_symbol}
+use Rattle.tag_lines.specs.Grammar.{before_symbol, is_last}
 use Rattle.tag_lines.specs.Lines.{is_nothing}
 use Rattle.report_lines.specs.declared.expr.Expr.{Expr}
 use Rattle.report_lines.specs.declared.format.Format.{Format}
@@ -13,14 +14,14 @@ use Rattle.report_lines.specs.declared.head.Head.{Head}
 use Rattle.report_lines.specs.declared.head.Head.TheVariants as head
 use Rattle.report_lines.specs.declared.parting.Level.TheVariants as level
 use Rattle.report_lines.specs.Formats.{formats_of, value_count}
-use Rattle.report_lines.specs.Grammar.{Reader, Share, all_of, expression, front_len, inner, shares_at}
+use Rattle.report_lines.specs.Grammar.{Reader, Share, all_of, expression, inner, is_sign, shares_at}
 
 -- a parenthesis is closed at the end, and a comma stands in it outside inner ones
 abbrev pub is_tuple : List Token → Bool
 is_tuple [] = false
 is_tuple (t ∷ more) =
     let within = take (length more - 1) more in
-    is_symbol 40 t && (is_last 41 (slice_get more (length more - 1)) && nat_lt (front_len level.Comma 0 within) (length within))
+    is_symbol 40 t && (is_last 41 (slice_get more (length more - 1)) && nat_lt (front_len (is_sign level.Comma) 0 within) (length within))
 
 abbrev pub value_in : Reader → Share → Option Expr
 value_in reader share = reader share.tokens

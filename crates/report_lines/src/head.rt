@@ -9,9 +9,9 @@ use crate::format::Format;
 use crate::printing::printed;
 use crate::reading::expression;
 use mcy_base::{Items, Text};
-use script_lines::{Keyword, Token};
+use script_lines::{Keyword, Token, is_symbol};
 use std::alloc::{AllocError, Global};
-use tag_lines::{is_last, is_symbol, is_word};
+use tag_lines::{is_last, is_word};
 use tree_parts::Listed;
 
 /// What a line says. A tag is told by its place among those of the project, or by how many these are where it is none of them.

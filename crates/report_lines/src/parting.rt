@@ -1,11 +1,9 @@
-//! Where a list of tokens is parted: at the signs of one precedence that stand outside parentheses.
-ghost use Rattle.std.specs.Prelude.{◌≡◌, ◌≤◌, ◌<◌, ◌+◌, ◌^◌, ◌==◌, ◌&&◌, drop, length, take};
-ghost use Rattle.tag_lines.specs.Grammar.{open_behind};
-ghost use Rattle.report_lines.specs.Grammar.{front_len, is_at, is_sign, operator_of, symbol_operator};
+//! What parts a list of tokens: the signs of one precedence that stand outside parentheses.
+ghost use Rattle.std.specs.Prelude.{◌≡◌, ◌≤◌, ◌+◌, drop, length};
+ghost use Rattle.report_lines.specs.Grammar.{is_at, is_sign, operator_of, symbol_operator};
 
 use crate::expr::Operator;
-use script_lines::{Keyword, Token};
-use tag_lines::{is_symbol, open_behind};
+use script_lines::{Keyword, Sign, Token, is_symbol};
 
 /// What parts a list of tokens: commas, or the operators of one precedence, from the lowest to the highest.
 #[derive(Clone, Copy)]
@@ -95,34 +93,12 @@ fn is_sign(level: Level, token: &Token) -> bool
     }
 }
 
-/// Whether the token parts at this level and stands outside parentheses, of which so many are open.
-fn parts_here(level: Level, opened: usize, token: &Token) -> bool
-    ensures { result ≡ (opened == 0 && is_sign level token.now) }
-{
-    opened == 0 && is_sign(level, token)
-}
+impl Sign for Level {
+    ghost signs = { is_sign };
 
-/// How many tokens stand before the first sign outside parentheses.
-pub fn front_len(level: Level, tokens: &[Token]) -> usize
-    ensures value { result ≡ front_len level 0 tokens.now }
-    ensures shorter { result ≤ length tokens.now }
-{
-    let mut opened = 0;
-    for (i, token) in tokens.iter().enumerate() {
-        if parts_here(level, opened, token) {
-            return i;
-        }
-        opened = open_behind(opened, token);
+    fn is_sign(self, token: &Token) -> bool {
+        is_sign(self, token)
     }
-    tokens.len()
-}
-
-/// So many tokens in front.
-pub fn first(len: usize, tokens: &[Token]) -> &[Token]
-    requires { len ≤ length tokens.now }
-    ensures { result.now ≡ take len tokens.now }
-{
-    &tokens[..len]
 }
 
 /// The tokens behind so many.

@@ -8,12 +8,12 @@ ghost use Rattle.report_lines.specs.declared.format.Format.TheVariants.{Byte};
 use crate::expr::Expr;
 use crate::format::{Format, formats, value_count};
 use crate::head::Head;
-use crate::parting::{Level, behind, first, front_len};
+use crate::parting::{Level, behind};
 use crate::reading::{expression, inner};
 use mcy_base::{Items, Text};
-use script_lines::Token;
+use script_lines::{Token, before, front_len, is_symbol};
 use std::alloc::{AllocError, Global};
-use tag_lines::{is_last, is_symbol};
+use tag_lines::is_last;
 use tree_parts::Listed;
 
 /// The bytes of a text as they stand.
@@ -56,7 +56,7 @@ fn all_values(
     let mut rest = tokens;
     'signs: while let [_, more @ ..] = rest {
         let len = front_len(Level::Comma, more);
-        let front = first(len, more);
+        let front = before(len, more);
         let Some(value) = inner(alloc, tags, room, front)? else {
             return Ok(None);
         };

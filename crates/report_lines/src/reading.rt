@@ -6,12 +6,12 @@ ghost use Rattle.std.specs.Prelude.{◌≡◌, IfOk, Some};
 ghost use Rattle.report_lines.specs.Grammar.{all_of, are_barred, atom, chain, deeper, expression, inner, is_single, joined, negated, negation, operand, part, shares_at, term_in, term_of};
 
 use crate::expr::{Expr, Operator, Term};
-use crate::parting::{Level, behind, first, front_len, operator_of};
+use crate::parting::{Level, behind, operator_of};
 use crate::words::{counted, single};
 use mcy_base::Text;
-use script_lines::{Keyword, Token};
+use script_lines::{Keyword, Token, before, front_len, is_symbol};
 use std::alloc::{AllocError, Global};
-use tag_lines::{is_last, is_symbol};
+use tag_lines::is_last;
 use tree_parts::{Boxed, Listed};
 
 /// An operator and its operand, where both are there.
@@ -98,7 +98,7 @@ fn chain(
     ensures { IfOk result (λ x. x ≡ chain level (part tags.now room level) tokens.now) }
 {
     let len = front_len(level, tokens);
-    let Some(value) = part(alloc, tags, room, level, first(len, tokens))? else {
+    let Some(value) = part(alloc, tags, room, level, before(len, tokens))? else {
         return Ok(None);
     };
     match terms(alloc, tags, room, level, behind(len, tokens))? {
@@ -122,7 +122,7 @@ fn terms(
     let mut rest = tokens;
     'signs: while let [sign, more @ ..] = rest {
         let len = front_len(level, more);
-        let front = first(len, more);
+        let front = before(len, more);
         let Some(term) = term(alloc, tags, room, level, sign, front)? else {
             return Ok(None);
         };

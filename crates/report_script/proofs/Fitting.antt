@@ -1,61 +1,25 @@
 -- What is read as a report names only the tags that there are.
-use Rattle.std.proofs.Common.{◌≡◌, ℕ, zero, suc, ◌==◌, Bool, true, false, ◌&&◌, List, [], ◌∷◌, ◌++◌, Option, Some, None, Result, Ok, Err, IfOk, map, length, refl, sym, ap, ◌∙◌, subst, true≢false, if◌then◌else◌}
+use Rattle.report_script.proofs.Common.{◌≡◌, ℕ, zero, suc, ◌==◌, Bool, true, false, ◌&&◌, List, [], ◌∷◌, ◌++◌, Option, Some, None, Result, Ok, Err, IfOk, map, length, refl, sym, ap, ◌∙◌, subst}
+use Rattle.report_script.proofs.Common.{if◌then◌else◌, Row, Part, parts_of, ScriptError, Expr, Format, Head, Place, Draft, Arm, Statement, fold-roll-Statement, fold_out-Arm, Reader, arm_of, block_by}
+use Rattle.report_script.proofs.Common.{block_in, closed, inner_indent, is_open, joined, new_draft, no_body, with_part, with_parts, Project, fitted, formed, is_misplaced, line, worded}
 use Rattle.std.specs.List.{list_all}
-use Rattle.script_lines.specs.declared.row.Row.{Row}
 use Rattle.script_lines.specs.declared.token.Token.{Token}
-use Rattle.tag_script.specs.Blocks.{Part, and_then, parts_of}
 use Rattle.tag_script.specs.Checks.{Reads, excess, is_indented_so}
-use Rattle.tag_script.specs.declared.script.ScriptError.{ScriptError}
-use Rattle.report_lines.specs.declared.expr.Expr.{Expr}
-use Rattle.report_lines.specs.declared.format.Format.{Format}
-use Rattle.report_lines.specs.declared.head.Head.{Head}
+use Rattle.tag_script.proofs.Fitting.{if_fits, unless_fits, and_fits}
+use Rattle.tag_script.proofs.Truths.{append_true}
 use Rattle.report_lines.specs.declared.head.Head.TheVariants as head
 use Rattle.report_lines.specs.Fits.{all_true, expr_fits, head_fits}
-use Rattle.report_lines.specs.Lines.{head_of}
-use Rattle.report_script.specs.declared.checks.Place.{Place}
-use Rattle.report_script.specs.declared.draft.Draft.{Draft}
-use Rattle.report_script.specs.declared.report.Arm.{Arm}
 use Rattle.report_script.specs.declared.report.Report.{Report}
-use Rattle.report_script.specs.declared.report.Statement.{Statement}
 use Rattle.report_script.specs.declared.report.Statement.TheOpen as o
 use Rattle.report_script.specs.declared.report.Statement.TheVariants as v
-use Rattle.report_script.specs.declared.report.Statement.TheFolds.{fold-roll-Statement, fold_out-Arm}
-use Rattle.report_script.specs.Blocks.{Reader, arm_of, block_by, block_in, closed, inner_indent, is_open, joined, new_draft, no_body, with_part, with_parts}
-use Rattle.report_script.specs.Checks.{Project, fitted, formed, is_misplaced, line, worded}
 use Rattle.report_script.specs.Fits.{arm_fits, fit_arm, fit_statement, report_fits, statement_fits}
 use Rattle.report_script.specs.Reading.{report_by, report_in}
-
--- Truths of two and of many.
-
-left_true : (a b : Bool) → (a && b) ≡ true → a ≡ true
-left_true true b h = refl
-left_true false b h = h
-
-right_true : (a b : Bool) → (a && b) ≡ true → b ≡ true
-right_true true b h = h
-right_true false b h = absurd (true≢false (sym h))
-
-both_true : (a b : Bool) → a ≡ true → b ≡ true → (a && b) ≡ true
-both_true true b h k = k
-both_true false b h k = h
-
-append_true : {A : Type 0} (f : A → Bool) (xs ys : List A) → all_true (map f xs) ≡ true → all_true (map f ys) ≡ true → all_true (map f (xs ++ ys)) ≡ true
-append_true f [] ys h k = k
-append_true f (x ∷ xs) ys h k =
-    both_true (f x) (all_true (map f (xs ++ ys))) (left_true (f x) (all_true (map f xs)) h) (append_true f xs ys (right_true (f x) (all_true (map f xs)) h) k)
+use Rattle.std.proofs.lemmas.Bool.{and_from}
 
 -- One line.
 
 abbrev Named : Project → Head → Type 0
 Named p said = head_fits (length p.tags) said ≡ true
-
-if_fits : {A : Type 0} (P : A → Type 0) (b : Bool) (fault : ScriptError) (r : Result A ScriptError) → IfOk r P → IfOk (if b then Err fault else r) P
-if_fits P true fault r h = tt
-if_fits P false fault r h = h
-
-unless_fits : {A : Type 0} (P : A → Type 0) (b : Bool) (fault : ScriptError) (r : Result A ScriptError) → IfOk r P → IfOk (if b then r else Err fault) P
-unless_fits P true fault r h = h
-unless_fits P false fault r h = tt
 
 tested_fits : (p : Project) (said : Head) (b : Bool) (fault : ScriptError) → head_fits (length p.tags) said ≡ b → IfOk (if b then Ok said else Err fault) (Named p)
 tested_fits p said true fault h = h
@@ -88,10 +52,6 @@ line_fits in_arms p place row body = line_if p (is_indented_so place.indent row.
 
 -- Statements.
 
-and_fits : {A B : Type 0} (P : A → Type 0) (Q : B → Type 0) (r : Result A ScriptError) (next : A → Result B ScriptError) → IfOk r P → ((a : A) → P a → IfOk (next a) Q) → IfOk (and_then r next) Q
-and_fits P Q (Ok a) next h k = k a h
-and_fits P Q (Err fault) next h k = tt
-
 module _ (p : Project) where
   abbrev fits : Statement → Bool
   fits = statement_fits (length p.tags)
@@ -119,10 +79,10 @@ module _ (p : Project) where
     pub arms : FitArms draft.arms
 
   one_fits : (x : Statement) → fits x ≡ true → Fit (x ∷ [])
-  one_fits x h = both_true (fits x) true h refl
+  one_fits x h = and_from (fits x) true h refl
 
   if_fit : (arms : List Arm) (other : List Statement) → FitArms arms → Fit other → Fit (v.If arms other ∷ [])
-  if_fit arms other h k = one_fits (v.If arms other) (if_is arms other ∙ both_true (all_true (map fits_arm arms)) (all_true (map fits other)) h k)
+  if_fit arms other h k = one_fits (v.If arms other) (if_is arms other ∙ and_from (all_true (map fits_arm arms)) (all_true (map fits other)) h k)
 
   closed_if : (done : List Statement) (whole arms : List Arm) → Fit done → FitArms whole → Fit (elim arms [ [] ↦ done | arm ∷ more ↦ done ++ v.If whole [] ∷ [] ])
   closed_if done whole [] h k = h
@@ -133,8 +93,8 @@ module _ (p : Project) where
 
   arm_fit : (number : ℕ) (condition : Expr) (inner : Draft) → expr_fits (length p.tags) condition ≡ true → FitDraft inner → FitArms (arm_of number condition inner ∷ [])
   arm_fit number condition inner h k =
-      both_true (fits_arm (arm_of number condition inner)) true
-      (arm_is (arm_of number condition inner) ∙ both_true (expr_fits (length p.tags) condition) (all_true (map fits (closed inner))) h (closed_fits inner k)) refl
+      and_from (fits_arm (arm_of number condition inner)) true
+      (arm_is (arm_of number condition inner) ∙ and_from (expr_fits (length p.tags) condition) (all_true (map fits (closed inner))) h (closed_fits inner k)) refl
 
   joined_fits : (draft : Draft) (number : ℕ) (said : Head) (inner : Draft) → FitDraft draft → Named p said → FitDraft inner → FitDraft (joined draft number said inner)
   unfolding joined

@@ -1,3 +1,4 @@
+mod Common
 pub mod Fitting
 pub mod Lines
 pub mod Rooms

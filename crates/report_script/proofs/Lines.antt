@@ -1,14 +1,7 @@
 -- The lines of a block, one after the other.
-use Rattle.std.proofs.Common.{◌≡◌, ℕ, ◌-◌, ◌<◌, ◌≤◌, Bool, List, [], ◌∷◌, Result, Ok, Err, drop, get_or, length, take, refl, sym, ap, ◌∙◌, arith}
-use Rattle.script_lines.specs.declared.row.Row.{Row}
-use Rattle.tag_script.specs.Blocks.{Part, and_then, body_len, parts_of}
-use Rattle.tag_script.specs.declared.script.ScriptError.{ScriptError}
+use Rattle.report_script.proofs.Common.{◌≡◌, ℕ, ◌-◌, ◌<◌, ◌≤◌, Bool, List, [], ◌∷◌, Result, Ok, Err, drop, get_or, length, take, refl, sym, ap, ◌∙◌, arith, Row, Part, and_then, body_len, parts_of}
+use Rattle.report_script.proofs.Common.{ScriptError, Head, Place, Draft, Reader, block_by, block_in, body_in, inner_indent, is_open, joined, new_draft, with_part, with_parts, Project, line}
 use Rattle.tag_script.proofs.Lines.{cut_is}
-use Rattle.report_lines.specs.declared.head.Head.{Head}
-use Rattle.report_script.specs.declared.checks.Place.{Place}
-use Rattle.report_script.specs.declared.draft.Draft.{Draft}
-use Rattle.report_script.specs.Blocks.{Reader, block_by, block_in, body_in, inner_indent, is_open, joined, new_draft, with_part, with_parts}
-use Rattle.report_script.specs.Checks.{Project, line}
 use Rattle.report_script.proofs.Rooms.{block_is}
 
 -- One line more. `more` are the lines behind it, of which the first `len` are its body, and `new` are those behind the body.

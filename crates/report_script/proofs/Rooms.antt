@@ -1,8 +1,5 @@
 -- Blocks and bodies by their room.
-use Rattle.std.proofs.Common.{◌≡◌, ℕ, zero, suc, ◌-◌, ◌≤◌, List, refl, ap, arith}
-use Rattle.script_lines.specs.declared.row.Row.{Row}
-use Rattle.report_script.specs.Blocks.{block_by, block_in, body_in}
-use Rattle.report_script.specs.Checks.{Project}
+use Rattle.report_script.proofs.Common.{◌≡◌, ℕ, zero, suc, ◌-◌, ◌≤◌, List, refl, ap, arith, Row, block_by, block_in, body_in, Project}
 
 pub block_is : (p : Project) (room indent : ℕ) (rows : List Row) → block_in p room indent rows ≡ block_by p room (body_in p room) indent rows
 unfolding block_in body_in

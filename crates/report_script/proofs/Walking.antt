@@ -1,20 +1,15 @@
 -- What the loops evaluate and print, one element more at a time.
-use Rattle.std.proofs.Common.{◌≡◌, ℕ, ◌+◌, ◌<◌, ◌≤◌, Bool, true, false, List, [], ◌∷◌, ◌++◌, Option, None, Some, Result, Ok, Err, IfOk, map, drop, get_or, length, refl, sym, ap, ◌∙◌, append_assoc, append-nil, subst, true≢false, if◌then◌else◌}
+use Rattle.report_script.proofs.Common.{◌≡◌, ℕ, ◌+◌, ◌<◌, ◌≤◌, Bool, true, false, List, ◌∷◌, ◌++◌, Option, None, Some, Result, Ok, Err, IfOk, map, drop, get_or, length, refl, sym, ap, ◌∙◌}
+use Rattle.report_script.proofs.Common.{append_assoc, append-nil, subst, true≢false, if◌then◌else◌, Expr, Format, is_true, Arm, Statement, fold-roll-Statement, fold_out-Arm, Choice, Printed, Printing}
+use Rattle.report_script.proofs.Common.{after, arm_step, by_value, choice, chosen, doing, extended, followed, format_text, in_turn, left_behind, line_printed, line_text, statement_step, stopped_at}
 use Rattle.std.proofs.lemmas.List.{at_drop_more, at_drop_all}
-use Rattle.report_lines.specs.declared.expr.Expr.{Expr}
 use Rattle.report_lines.specs.declared.expr.Term.{Term}
-use Rattle.report_lines.specs.declared.format.Format.{Format}
 use Rattle.report_values.specs.declared.fraction.Fault.{Fault}
 use Rattle.report_values.specs.declared.fraction.Fraction.{Fraction}
-use Rattle.report_values.specs.Fractions.{is_true}
-use Rattle.report_script.specs.declared.report.Arm.{Arm}
-use Rattle.report_script.specs.declared.report.Statement.{Statement}
-use Rattle.report_script.specs.declared.report.Statement.TheFolds.{fold-roll-Statement, fold_out-Arm}
 use Rattle.report_script.specs.declared.report.Statement.TheOpen as o
 use Rattle.report_script.specs.declared.report.Statement.TheVariants as v
 use Rattle.report_script.specs.declared.running.Stopped.{Stopped}
 use Rattle.report_script.specs.Running.{Picks, StopsAt}
-use Rattle.report_script.specs.Texts.{Choice, Printed, Printing, after, arm_step, by_value, choice, chosen, doing, extended, followed, format_text, in_turn, left_behind, line_printed, line_text, statement_step, stopped_at}
 use Rattle.report_script.specs.Values.{applied, chained, on, pending, value_of}
 
 -- Terms.

@@ -18,9 +18,6 @@ pub record Project : Type 0 where
   pub tags : List (List ℕ)
   pub limit : Option ℕ
 
-abbrev pub project_of : Scope → Project
-project_of scope = record { tags = scope.tags.now; limit = scope.limit }
-
 -- it goes on an `if` where none is open, or lacks its body
 abbrev pub is_misplaced : Bool → List Row → Head → Bool
 is_misplaced in_arms body (head.If condition) = not (has_lines body)
@@ -54,3 +51,8 @@ line in_arms project place row body = elim (excess project.limit row.number) [
   | Some e ↦ Err e
   | None ↦ if is_indented_so place.indent row.indent then fitted in_arms project place row body else Err (fault.Indent row.number)
 ]
+
+-- For proofs alone.
+
+abbrev pub project_of : Scope → Project
+project_of scope = record { tags = scope.tags.now; limit = scope.limit }

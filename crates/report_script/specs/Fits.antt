@@ -19,9 +19,11 @@ fit_arm tags arm = expr_fits tags arm.condition && all_true arm.body
 abbrev pub statement_fits : ℕ → Statement → Bool
 statement_fits tags = fold-Statement Bool Bool (fit_statement tags) (fit_arm tags)
 
-abbrev pub arm_fits : ℕ → Arm → Bool
-arm_fits tags = fold-Arm Bool Bool (fit_statement tags) (fit_arm tags)
-
 -- a report names only these tags
 abbrev pub report_fits : ℕ → Report → Bool
 report_fits tags report = all_true (map (statement_fits tags) report.statements)
+
+-- For proofs alone.
+
+abbrev pub arm_fits : ℕ → Arm → Bool
+arm_fits tags = fold-Arm Bool Bool (fit_statement tags) (fit_arm tags)

@@ -4,6 +4,8 @@ use Rattle.report_script.specs.declared.report.Arm.{Arm}
 use Rattle.report_script.specs.declared.running.Stopped.{Stopped}
 use Rattle.report_script.specs.Texts.{Printing, choice, chosen, doing, in_turn, stopped_at}
 
+-- For proofs alone.
+
 -- what the arms print is what the one at this place does, or the other statements
 abbrev pub Picks : List ℕ → List Arm → Option ℕ → Type 0
 Picks counts arms None = (other : Printing) → chosen (map choice arms) other counts ≡ other counts

@@ -45,12 +45,6 @@ unfoldable pub line_text : List Format → List Expr → List ℕ → Result (Li
 line_text [] values counts = Ok []
 line_text (f ∷ fs) values counts = on (format_text f values counts) (λ text. extended text (line_text fs (left_behind f values) counts))
 
--- the text is this one, or there is none for this reason; want of memory may come anywhere
-abbrev pub Prints : {A : Type 0} → Result A Stop → Result (List ℕ) Fault → List ℕ → Type 0
-Prints (Ok a) printed new = printed ≡ Ok new
-Prints (Err (stop.Fault fault)) printed new = printed ≡ Err fault
-Prints (Err stop.Memory) printed new = ⊤
-
 -- Statements.
 
 -- what was printed, and the line where it ended and why, if it ended before its time
@@ -109,9 +103,6 @@ arm_step arm = record { line = arm.line; condition = value_of arm.condition; bod
 abbrev pub doing : Statement → Printing
 doing = fold-Statement Printing Choice statement_step arm_step
 
-abbrev pub choice : Arm → Choice
-choice = fold-Arm Printing Choice statement_step arm_step
-
 -- The last line, where the report ended before its time.
 
 abbrev pub fault_text : Fault → List ℕ
@@ -127,3 +118,14 @@ text_of p = p.text ++ last_line p.ended
 
 unfoldable pub report_text : Report → List ℕ → List ℕ
 report_text report counts = text_of (in_turn (map doing report.statements) counts)
+
+-- For proofs alone.
+
+-- the text is this one, or there is none for this reason; want of memory may come anywhere
+abbrev pub Prints : {A : Type 0} → Result A Stop → Result (List ℕ) Fault → List ℕ → Type 0
+Prints (Ok a) printed new = printed ≡ Ok new
+Prints (Err (stop.Fault fault)) printed new = printed ≡ Err fault
+Prints (Err stop.Memory) printed new = ⊤
+
+abbrev pub choice : Arm → Choice
+choice = fold-Arm Printing Choice statement_step arm_step

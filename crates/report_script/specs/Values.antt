@@ -69,5 +69,7 @@ term_step t = record { operator = t.operator; operand = t.operand }
 abbrev pub value_of : Expr → Valuing
 value_of = fold-Expr Valuing Pending expr_step term_step
 
+-- For proofs alone.
+
 abbrev pub pending : Term → Pending
 pending = fold-Term Valuing Pending expr_step term_step

@@ -6,6 +6,7 @@ use Rattle.std.proofs.lemmas.Bool.Decides.{Decides-eqb}
 use Rattle.std.proofs.lemmas.Nat.Gcd.{dvd_of_mod-eq-zero, le_from_IsGcd, le_of_dvd, mod-eq-zero_of_dvd}
 use Rattle.std.specs.Int.{◌∣◌}
 use Rattle.report_values.specs.Fractions.{common, divides, greatest}
+use Rattle.std.proofs.lemmas.Bool.{and_from}
 
 -- The greatest number with a property.
 
@@ -30,10 +31,6 @@ right_true : (a b : Bool) → (a && b) ≡ true → b ≡ true
 right_true true b h = h
 right_true false b h = absurd (true≢false (sym h))
 
-both_true : (a b : Bool) → a ≡ true → b ≡ true → (a && b) ≡ true
-both_true true b h k = k
-both_true false b h k = h
-
 divisor : (k n : ℕ) → divides k n ≡ true → k ∣ n
 divisor k n h = dvd_of_mod-eq-zero k ((Decides-eqb (n % k) 0).0 h)
 
@@ -48,7 +45,7 @@ pub common_is : (n d g : ℕ) → 1 ≤ d → IsGcd n d g → common n d ≡ g
 unfolding common
 common_is n d g l h =
     let one : 1 ≤ g = common_positive n d g l h in
-    greatest_is (λ k. divides k n && divides k d) g d (both_true (divides g n) (divides g d) (divided g n h.0) (divided g d h.1))
+    greatest_is (λ k. divides k n && divides k d) g d (and_from (divides g n) (divides g d) (divided g n h.0) (divided g d h.1))
     (λ k t. le_from_IsGcd n d g k h (omega (arith, one)) (divisor k n (left_true (divides k n) (divides k d) t)) (divisor k d (right_true (divides k n) (divides k d) t)))
     one (le_of_dvd (omega arith) h.1)
 

@@ -1,15 +1,7 @@
 -- The tests that a script asks on all words of a mutation, and what it asks for on some of them.
-use Rattle.std.proofs.Common.{◌≡◌, ◌≢◌, arith, ℕ, ◌<◌, ◌≤◌, Bool, true, false, not, ◌==◌, List, [], ◌∷◌, Option, None, Some, refl, sym, ◌∙◌, ap, length, if◌then◌else◌}
-use Rattle.std.specs.Prelude.{find, filter, is_none, slice_index}
-use Rattle.std.proofs.lemmas.Bool.Decides.{Decides-eqb}
-use Rattle.tag_script.specs.declared.answer.Ask.TheVariants.{Need}
-use Rattle.tag_script.specs.Courses.{Course, course_of, ended, failed, reads}
-use Rattle.tag_script.specs.Outcomes.{AreAmong, End, Outcome, asking, first_told, is_expected, outcome_of, script_outcome, told, unexpected, word_at}
-use Rattle.tag_script.proofs.Below.{AreBelow, asked_below}
-use Rattle.tag_script.proofs.Telling.{told_heard}
-use Rattle.result_book.specs.declared.campaign.Campaign.{Campaign}
-use Rattle.result_book.specs.Campaigns.{IsFit}
-use Rattle.result_book.specs.Scripts.{ask_by, asked_on, filled}
+use Rattle.result_book.proofs.Common.{◌≡◌, ◌≢◌, arith, ℕ, ◌<◌, ◌≤◌, Bool, true, false, not, ◌==◌, List, [], ◌∷◌, Option, None, Some, refl, sym, ◌∙◌, ap, length, if◌then◌else◌, find, filter, is_none}
+use Rattle.result_book.proofs.Common.{slice_index, Decides-eqb, Need, Course, course_of, ended, failed, reads, AreAmong, End, Outcome, asking, first_told, is_expected, outcome_of, script_outcome}
+use Rattle.result_book.proofs.Common.{told, unexpected, word_at, AreBelow, asked_below, told_heard, Campaign, IsFit, ask_by, asked_on, filled}
 use Rattle.result_book.proofs.Asking.{among_filled, ask_heard, found_by}
 
 -- Some of the words are the same as all of them where they are there.

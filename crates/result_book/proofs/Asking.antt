@@ -1,17 +1,10 @@
 -- What holds of the script: it asks for no word that is there, for tests of the campaign alone, and whatever the words are that
 -- are not there.
-use Rattle.std.proofs.Common.{◌≡◌, ℕ, zero, suc, ◌<◌, Bool, true, false, List, [], ◌∷◌, length, Option, None, Some, refl, sym, ◌∙◌, subst, arith, if◌then◌else◌}
-use Rattle.std.specs.Prelude.{find, is_none, slice_index}
-use Rattle.tag_script.specs.declared.answer.Ask.TheVariants.{Need, Done, AssertFailed, Unexpected}
-use Rattle.tag_script.specs.Courses.{course_of}
+use Rattle.result_book.proofs.Common.{◌≡◌, ℕ, zero, suc, ◌<◌, Bool, true, false, List, [], ◌∷◌, length, Option, None, Some, refl, sym, ◌∙◌, subst, arith, if◌then◌else◌, find, is_none, slice_index}
+use Rattle.result_book.proofs.Common.{Need, Done, AssertFailed, Unexpected, course_of, AreAmong, End, Outcome, assert_failed, done, first_told, script_outcome, told, unexpected, word_at, script_needs}
+use Rattle.result_book.proofs.Common.{told_heard, Campaign, Answer, ask, ask_by, filled, word_in, words_of, IsFit}
 use Rattle.tag_script.specs.Fits.{NeedsBelow}
 use Rattle.tag_script.specs.Hearing.{ask_told, heard}
-use Rattle.tag_script.specs.Outcomes.{AreAmong, End, Outcome, assert_failed, done, first_told, script_outcome, told, unexpected, word_at}
-use Rattle.tag_script.proofs.Below.{script_needs}
-use Rattle.tag_script.proofs.Telling.{told_heard}
-use Rattle.result_book.specs.declared.campaign.Campaign.{Campaign}
-use Rattle.result_book.specs.Scripts.{Answer, ask, ask_by, filled, word_in, words_of}
-use Rattle.result_book.specs.Campaigns.{IsFit}
 use Rattle.result_book.proofs.Words.{word_at-words_of}
 
 filled_at : (words : List (Option ℕ)) (test word : ℕ) → word_at words test ≡ Some word → slice_index (filled words) test ≡ word

@@ -1,20 +1,7 @@
 -- Read tests that were found so far.
-use Rattle.std.proofs.Common.{◌≡◌, inl, inr, arith, ℕ, ◌<◌, Bool, true, false, ◌==◌, List, [], ◌∷◌, ◌++◌, length, cond, count_by, get_or, set, slice_get, Option, None, Some, refl, sym, ◌∙◌, ap, subst, append_assoc, if◌then◌else◌}
-use Rattle.std.specs.Prelude.{is_none}
-use Rattle.std.specs.Option.{option_or}
-use Rattle.std.proofs.lemmas.Bool.Decides.{eqb_tells}
-use Rattle.std.proofs.lemmas.List.{append-nil}
-use Rattle.std.proofs.lemmas.List.Sums.{sum_by-set}
-use Rattle.std.proofs.lemmas.Option.{same_Some, unwrap_or-slice_get}
-use Rattle.mcy_keeper.specs.declared.book.Entry.{Entry}
-use Rattle.tag_script.specs.declared.answer.Ask.TheVariants.{Need}
-use Rattle.tag_script.specs.Outcomes.{word_at}
-use Rattle.result_book.specs.declared.campaign.Campaign.{Campaign}
-use Rattle.result_book.specs.Campaigns.{IsFit}
-use Rattle.result_book.specs.Reads.{next_read}
-use Rattle.result_book.specs.Rows.{AreRows, AreRowsIn, answers_of}
-use Rattle.result_book.specs.Scripts.{Answer, ask, asked_on, read_answers, word_in, words_of}
-use Rattle.result_book.specs.States.{IsStateOf, Progress}
+use Rattle.result_book.proofs.Common.{◌≡◌, inl, inr, arith, ℕ, ◌<◌, Bool, true, false, ◌==◌, List, [], ◌∷◌, ◌++◌, length, cond, count_by, get_or, set, slice_get, Option, None, Some, refl, sym, ◌∙◌}
+use Rattle.result_book.proofs.Common.{ap, subst, append_assoc, if◌then◌else◌, is_none, option_or, eqb_tells, append-nil, sum_by-set, same_Some, unwrap_or-slice_get, Entry, Need, word_at, Campaign}
+use Rattle.result_book.proofs.Common.{IsFit, next_read, AreRows, AreRowsIn, answers_of, Answer, ask, asked_on, read_answers, word_in, words_of, IsStateOf, Progress}
 use Rattle.result_book.proofs.Asking.{need_by, need_test}
 use Rattle.result_book.proofs.Following.{word_inside}
 use Rattle.result_book.proofs.Known.{AreOf, known_are, rest_are}

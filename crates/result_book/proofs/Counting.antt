@@ -1,17 +1,7 @@
 -- How many rows there are: of each pair at most one more than there are round numbers up to its last bound.
-use Rattle.std.proofs.Common.{◌≡◌, inl, inr, arith, ℕ, zero, suc, ◌+◌, ◌*◌, ◌<◌, ◌≤◌, true, List, [], ◌∷◌, ◌++◌, length, set, get_or, sum, Option, None, Some, refl, sym, ◌∙◌, ap, subst, append_assoc, length-append}
-use Rattle.std.specs.Prelude.{IsSomeAnd}
-use Rattle.std.proofs.lemmas.Bool.Decides.{eqb_tells}
-use Rattle.std.proofs.lemmas.Option.{get_or_from_slice_get}
-use Rattle.std.proofs.lemmas.List.{append-nil}
-use Rattle.std.proofs.lemmas.List.Folds.{sum_by-replicate}
-use Rattle.std.proofs.lemmas.List.Sums.{sum_by-cons, sum_by-set}
-use Rattle.mcy_keeper.specs.declared.book.Entry.{Entry}
-use Rattle.result_book.specs.declared.campaign.Campaign.{Campaign}
-use Rattle.result_book.specs.Rounds.{is_round}
-use Rattle.result_book.specs.Scripts.{each_from}
-use Rattle.result_book.specs.Campaigns.{IsFit}
-use Rattle.result_book.specs.Rows.{MayFollow, answer_of, answers_of, bound_in, AreRows, IsRow}
+use Rattle.result_book.proofs.Common.{◌≡◌, inl, inr, arith, ℕ, zero, suc, ◌+◌, ◌*◌, ◌<◌, ◌≤◌, true, List, [], ◌∷◌, ◌++◌, length, set, get_or, sum, Option, None, Some, refl, sym, ◌∙◌, ap, subst}
+use Rattle.result_book.proofs.Common.{append_assoc, length-append, IsSomeAnd, eqb_tells, get_or_from_slice_get, append-nil, sum_by-replicate, sum_by-cons, sum_by-set, Entry, Campaign, is_round}
+use Rattle.result_book.proofs.Common.{each_from, IsFit, MayFollow, answer_of, answers_of, bound_in, AreRows, IsRow}
 use Rattle.result_book.proofs.Asking.{need_new}
 use Rattle.result_book.proofs.Each.{each_from-all, each_at, each_from-same, each_set, length-each_from}
 use Rattle.result_book.proofs.Grouping.{answers_of-other, answers_of-same, bound_in-other, bound_in-same, pair_no, pair_yes}
@@ -98,7 +88,7 @@ cap_most : (o : Option ℕ) → cap o ≤ 371
 cap_most None = omega arith
 cap_most (Some bound) = omega (arith, rank_most bound)
 
-sum_most : (f : ℕ → ℕ) (most from n : ℕ) → ((k : ℕ) → f k ≤ most) → sum (each_from f from n) ≤ n * most
+pub sum_most : (f : ℕ → ℕ) (most from n : ℕ) → ((k : ℕ) → f k ≤ most) → sum (each_from f from n) ≤ n * most
 sum_most f most from zero each = omega arith
 sum_most f most from (suc n) each =
     let step : n * most + most ≡ suc n * most = omega arith in

@@ -1,12 +1,7 @@
 -- Where two lists differ first.
-use Rattle.std.proofs.Common.{◌≡◌, ◌≢◌, inl, inr, arith, ℕ, suc, ◌+◌, ◌-◌, ◌<◌, ◌≤◌, true, List, ◌∷◌, length, take, drop, length-drop, slice_get, Option, Some, sym, ◌∙◌, ap, subst}
-use Rattle.std.proofs.lemmas.List.{length-take, take_all, take_more_same}
-use Rattle.std.proofs.lemmas.Option.{get_or_from_slice_get, slice_get-get_or, slice_get_past, slice_get_within}
-use Rattle.mcy_keeper.specs.Books.{begins_with, first_number, second_number}
-use Rattle.result_book.specs.BookFaults.{DifferFirst}
-use Rattle.result_book.specs.Rows.{meta_in_second}
+use Rattle.result_book.proofs.Common.{◌≡◌, ◌≢◌, arith, ℕ, suc, ◌+◌, ◌-◌, ◌<◌, ◌≤◌, true, List, ◌∷◌, length, take, drop, length-drop, slice_get, Option, Some, sym, ◌∙◌, ap, subst, take_all}
+use Rattle.result_book.proofs.Common.{take_more_same, get_or_from_slice_get, slice_get-get_or, slice_get_past, slice_get_within, begins_with, first_number, second_number, DifferFirst, meta_in_second}
 use Rattle.result_book.proofs.Formats.{first_meta, second_parts}
-use Rattle.result_book.proofs.Rounding.{below}
 
 -- an item that both have at the next place
 pub same_more : {X : Type 0} (xs ys : List X) (i : ℕ) (x : X) → slice_get xs i ≡ Some x → slice_get ys i ≡ Some x → take i xs ≡ take i ys → take (i + 1) xs ≡ take (i + 1) ys
@@ -29,18 +24,6 @@ pub differ_behind : (x : List ℕ) (xs ys : List (List ℕ)) (place : ℕ) (old 
 differ_behind x xs ys place old new differ =
     let more : place + 1 ≡ suc place = omega arith in
     subst (λ (p : ℕ). DifferFirst (x ∷ xs) (x ∷ ys) p old new) (sym more) (record { same = ap (λ (l : List (List ℕ)). x ∷ l) differ.same; old_is = differ.old_is; new_is = differ.new_is; differ = differ.differ })
-
--- The place is inside the derived list, or at its end.
-pub differ_place : (kept derived : List (List ℕ)) (place : ℕ) (old new : Option (List ℕ)) → DifferFirst kept derived place old new → place ≤ length derived
-differ_place kept derived place old new differ = elim (below (length derived) place) [
-  | inl past ↦ (let same = ap length differ.same in
-      let one = length-take place kept in
-      let other = length-take place derived in
-      let short : length kept ≤ place = omega (arith, same, one, other, past) in
-      let none : old ≡ new = differ.old_is ∙ slice_get_past kept place short ∙ sym (differ.new_is ∙ slice_get_past derived place (omega (arith, past))) in
-      absurd (differ.differ none))
-  | inr inside ↦ inside
-]
 
 -- What a book of the first format keeps and what a campaign has are the same, or differ first, as they are behind their numbers.
 

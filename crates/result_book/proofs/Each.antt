@@ -1,6 +1,5 @@
 -- What each of some numbers has, in a list.
-use Rattle.std.proofs.Common.{◌≡◌, ◌≢◌, arith, ℕ, zero, suc, ◌+◌, ◌<◌, ◌≤◌, List, ◌∷◌, length, map, set, slice_get, replicate, Some, refl, sym, ◌∙◌, ap}
-use Rattle.result_book.specs.Scripts.{each_from}
+use Rattle.result_book.proofs.Common.{◌≡◌, ◌≢◌, arith, ℕ, zero, suc, ◌+◌, ◌<◌, ◌≤◌, List, ◌∷◌, length, map, set, slice_get, replicate, Some, refl, sym, ◌∙◌, ap, each_from}
 
 pub length-each_from : {X : Type 0} (f : ℕ → X) (from n : ℕ) → length (each_from f from n) ≡ n
 length-each_from f from zero = refl

@@ -1,27 +1,11 @@
 -- What a state tells of a row.
-use Rattle.std.proofs.Common.{◌≡◌, ◌≢◌, arith, ℕ, ◌<◌, Bool, true, false, List, [], ◌∷◌, ◌++◌, length, slice_get, Option, None, Some, refl, sym, ◌∙◌, ap, set}
-use Rattle.std.specs.Option.{is_some}
-use Rattle.mcy_keeper.specs.declared.book.Entry.{Entry}
-use Rattle.result_book.specs.declared.campaign.Campaign.{Campaign}
-use Rattle.tag_script.specs.declared.answer.Ask.{Ask}
-use Rattle.tag_script.specs.Outcomes.{word_at}
-use Rattle.result_book.specs.Scripts.{Answer, ask, ask_by, word_in, words_of, mark_of, tags_of}
-use Rattle.result_book.specs.Campaigns.{IsFit}
-use Rattle.result_book.specs.Rows.{answer_of, answers_of, ask_on}
-use Rattle.result_book.specs.declared.check.RowFault.TheVariants.{Mark, Tags}
-use Rattle.result_book.specs.BookFaults.{HasNone, HasOne, IsAnswered, IsMarked, IsPlaced, IsRowFault}
-use Rattle.result_book.specs.States.{IsStateOf, Progress}
+use Rattle.result_book.proofs.Common.{◌≡◌, ◌≢◌, arith, ℕ, ◌<◌, Bool, true, false, List, [], ◌∷◌, ◌++◌, slice_get, Option, None, Some, refl, sym, ◌∙◌, ap, set, is_some, Entry, Campaign, Ask, word_at}
+use Rattle.result_book.proofs.Common.{Answer, ask, ask_by, word_in, words_of, mark_of, tags_of, IsFit, answer_of, answers_of, ask_on, Mark, Tags, HasNone, HasOne, IsAnswered, IsMarked, IsPlaced}
+use Rattle.result_book.proofs.Common.{IsRowFault, IsStateOf, Progress}
 use Rattle.result_book.proofs.Words.{word_at-words_of}
 use Rattle.result_book.proofs.Grouping.{answers_of-same}
 use Rattle.result_book.proofs.Pairs.{new_pair, old_pair}
 use Rattle.result_book.proofs.StateLemmas.{results-at, words_next}
-
-pub is_placed : (c : Campaign) (rows : List Entry) (e : Entry) (len : ℕ) (mutations : List (List ℕ)) (kinds : List ℕ) → e.seq ≡ len → len ≡ length rows → e.mutation < length mutations → mutations ≡ c.mutations → e.test < length kinds → kinds ≡ c.kinds → IsPlaced c rows e
-is_placed c rows e len mutations kinds seq len_is mutation mutations_are test kinds_are = record {
-  seq = seq ∙ len_is;
-  mutation = omega (arith, mutation, ap length mutations_are);
-  test = omega (arith, test, ap length kinds_are);
-}
 
 pub word_known : (c : Campaign) (rows : List Entry) (s : Progress) (e : Entry) (words : List (Option ℕ)) → IsFit c → IsStateOf c rows s → IsPlaced c rows e → slice_get s.results e.mutation ≡ Some words → word_at words e.test ≡ word_in (answers_of e.mutation rows) e.test
 word_known c rows s e words fit state placed at =

@@ -1,13 +1,6 @@
 -- How many mutations are finished.
-use Rattle.std.proofs.Common.{◌≡◌, ◌↔◌, arith, ℕ, zero, suc, ◌+◌, ◌<◌, ◌≤◌, Bool, true, false, List, length, cond, count_by, refl, sym, ◌∙◌, ap, subst}
-use Rattle.std.proofs.lemmas.List.Sums.{count_by-le-length, sum_by-cons}
-use Rattle.mcy_keeper.specs.declared.book.Entry.{Entry}
-use Rattle.mcy_keeper.specs.declared.book.Book.{Book}
-use Rattle.result_book.specs.declared.campaign.Campaign.{Campaign}
-use Rattle.tag_script.specs.declared.answer.Ask.{Ask}
-use Rattle.result_book.specs.Scripts.{each_from, is_ended}
-use Rattle.result_book.specs.Rows.{ask_on, IsFinished}
-use Rattle.result_book.specs.States.{IsStateOf, Progress}
+use Rattle.result_book.proofs.Common.{◌≡◌, ◌↔◌, arith, ℕ, zero, suc, ◌+◌, ◌<◌, ◌≤◌, Bool, true, false, List, length, cond, count_by, refl, sym, ◌∙◌, ap, subst, count_by-le-length, sum_by-cons, Entry}
+use Rattle.result_book.proofs.Common.{Book, Campaign, Ask, each_from, is_ended, ask_on, IsFinished, IsStateOf, Progress}
 use Rattle.result_book.proofs.Each.{length-each_from}
 
 abbrev one_if : Bool → ℕ

@@ -1,12 +1,7 @@
 -- What may come next after rows, and how the script stands then.
-use Rattle.std.proofs.Common.{◌≡◌, inl, inr, arith, ℕ, ◌<◌, ◌≤◌, Bool, true, false, List, length, slice_get, Option, None, Some, refl, ◌∙◌, ap}
-use Rattle.std.specs.Prelude.{IsSomeAnd, if◌then◌else◌}
-use Rattle.std.specs.List.{Any}
-use Rattle.std.proofs.lemmas.Option.{slice_get_within}
-use Rattle.mcy_keeper.specs.declared.book.Entry.{Entry}
-use Rattle.result_book.specs.declared.campaign.Campaign.{Campaign}
-use Rattle.result_book.specs.Campaigns.{IsFit, IsProofWord, IsSimWord, IsWordOf, IsWordOfKind, is_sim_test}
-use Rattle.result_book.specs.Rows.{bound_in, IsGivenUp, IsPair, IsRow, MayFollow}
+use Rattle.result_book.proofs.Common.{◌≡◌, inl, inr, arith, ℕ, ◌<◌, ◌≤◌, Bool, false, List, length, slice_get, Option, None, Some, refl, ◌∙◌, ap, IsSomeAnd, Any, slice_get_within, Entry, Campaign}
+use Rattle.result_book.proofs.Common.{IsFit, IsProofWord, IsSimWord, IsWordOf, IsWordOfKind, is_sim_test, bound_in, IsGivenUp, IsPair, IsRow, MayFollow}
+use Rattle.std.specs.Prelude.{if◌then◌else◌}
 use Rattle.result_book.proofs.Pairs.{not_both}
 
 -- A row of a pair that has one already: its last word is UNKNOWN, found under a smaller bound.
@@ -26,17 +21,6 @@ bound_within c earlier m t bound fit proof follows = elim follows [
     above : (o : Option ℕ) → IsSomeAnd o (λ before. before < bound) → 1 ≤ bound
     above None h = absurd h
     above (Some before) h = omega (arith, h)
-
--- and of any test at most 100,000
-pub bound_most : (c : Campaign) (earlier : List Entry) (m t bound : ℕ) → IsFit c → MayFollow c earlier m t bound → bound ≤ 100000
-bound_most c earlier m t bound fit follows = elim follows [
-  | inl new ↦ most (is_sim_test c t) new.1
-  | inr again ↦ again.most
-]
-  where
-    most : (b : Bool) → bound ≡ (if b then 0 else c.conflicts) → bound ≤ 100000
-    most true is = omega (arith, is)
-    most false is = omega (arith, is, fit.few_conflicts)
 
 -- The word of a test: there is such a test, and the word is a code of one.
 

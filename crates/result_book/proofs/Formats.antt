@@ -1,18 +1,10 @@
 -- Books of the two formats, and the histories of those of the first.
-use Rattle.std.proofs.Common.{◌≡◌, inl, ℕ, suc, Bool, true, false, List, [], ◌∷◌, ◌++◌, ◌≤◌, drop, length, map, refl, sym, ◌∙◌, ap, subst, arith, bytes_eq}
-use Rattle.std.specs.Prelude.{IsTrue, if◌then◌else◌}
-use Rattle.std.specs.List.{All}
-use Rattle.std.proofs.lemmas.List.{length-map}
-use Rattle.std.proofs.lemmas.List.Elements.{All-cons, All-nil}
-use Rattle.std.proofs.lemmas.Slice.Eq.{bytes_eq-Decides}
-use Rattle.mcy_keeper.specs.declared.book.Entry.{Entry}
-use Rattle.mcy_keeper.specs.declared.book.Book.{Book}
-use Rattle.mcy_keeper.specs.Books.{IsSecond, begins_with, first_number, in_second, is_first, second_number, upgraded, with_bounds}
-use Rattle.result_book.specs.declared.campaign.Campaign.{Campaign}
-use Rattle.result_book.specs.Scripts.{ask, mark_of, read_answers, tags_of}
+use Rattle.result_book.proofs.Common.{◌≡◌, inl, ℕ, suc, Bool, true, false, List, [], ◌∷◌, ◌++◌, ◌≤◌, drop, length, map, refl, sym, ◌∙◌, ap, subst, arith, bytes_eq, IsTrue, All, length-map, All-cons}
+use Rattle.result_book.proofs.Common.{All-nil, bytes_eq-Decides, Entry, Book, IsSecond, begins_with, first_number, in_second, is_first, second_number, upgraded, with_bounds, Campaign, ask, mark_of}
+use Rattle.result_book.proofs.Common.{read_answers, tags_of, IsFit, first_bound, is_sim_test, AreRows, AreRowsIn, IsNew, IsPair, IsRow, IsRowIn, IsWellFormed, answers_of, ask_on, bound_of, bounds_of}
+use Rattle.result_book.proofs.Common.{history, meta_in_second, read_on, second_row}
+use Rattle.std.specs.Prelude.{if◌then◌else◌}
 use Rattle.result_book.specs.BookLaws.{HasHistory}
-use Rattle.result_book.specs.Campaigns.{IsFit, first_bound, is_sim_test}
-use Rattle.result_book.specs.Rows.{AreRows, AreRowsIn, IsNew, IsPair, IsRow, IsRowIn, IsWellFormed, answers_of, ask_on, bound_of, bounds_of, history, meta_in_second, read_on, second_row}
 use Rattle.result_book.proofs.Each.{each_from-same}
 
 -- an item is not both numbers

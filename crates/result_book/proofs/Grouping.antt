@@ -1,10 +1,6 @@
 -- The answers and bounds of each mutation, and one more row.
-use Rattle.std.proofs.Common.{◌≡◌, ◌≢◌, inl, inr, ℕ, ◌<◌, true, false, List, [], ◌∷◌, ◌++◌, length, set, replicate, Option, Some, refl, sym, ◌∙◌, ap}
-use Rattle.std.specs.Prelude.{unwrap_or}
-use Rattle.std.proofs.lemmas.Bool.Decides.{eqb_tells}
-use Rattle.mcy_keeper.specs.declared.book.Entry.{Entry}
-use Rattle.result_book.specs.Scripts.{Answer, each_from}
-use Rattle.result_book.specs.Rows.{IsPair, answer_of, answers_of, bound_in, bounds_on, is_pair}
+use Rattle.result_book.proofs.Common.{◌≡◌, ◌≢◌, inl, inr, ℕ, ◌<◌, true, false, List, [], ◌∷◌, ◌++◌, length, set, replicate, Option, Some, refl, sym, ◌∙◌, ap, unwrap_or, eqb_tells, Entry, Answer}
+use Rattle.result_book.proofs.Common.{each_from, IsPair, answer_of, answers_of, bound_in, bounds_on, is_pair}
 use Rattle.result_book.proofs.Each.{each_from-same, each_set, length-each_from}
 
 -- One more row is one more answer of its mutation, and of no other.

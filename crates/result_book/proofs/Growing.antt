@@ -1,11 +1,6 @@
 -- Rows, one more at the end.
-use Rattle.std.proofs.Common.{◌≡◌, ℕ, Bool, ◌+◌, List, [], ◌∷◌, ◌++◌, length, refl, sym, ap, subst, ◌∙◌, append_assoc, length-append}
-use Rattle.std.proofs.lemmas.List.{append-nil}
-use Rattle.mcy_keeper.specs.declared.book.Entry.{Entry}
-use Rattle.mcy_keeper.specs.declared.book.Book.{Book}
-use Rattle.mcy_keeper.specs.Books.{AreNumbered, IsNext, is_first, with_entry}
-use Rattle.result_book.specs.declared.campaign.Campaign.{Campaign}
-use Rattle.result_book.specs.Rows.{AreRowsIn, IsRowIn, IsWellFormed}
+use Rattle.result_book.proofs.Common.{◌≡◌, ℕ, Bool, ◌+◌, List, [], ◌∷◌, ◌++◌, length, refl, sym, ap, subst, ◌∙◌, append_assoc, length-append, append-nil, Entry, Book, AreNumbered, IsNext, is_first}
+use Rattle.result_book.proofs.Common.{with_entry, Campaign, AreRowsIn, IsRowIn, IsWellFormed}
 
 pub rows_more : (first : Bool) (c : Campaign) (earlier rows : List Entry) (e : Entry) → AreRowsIn first c earlier rows → IsRowIn first c (earlier ++ rows) e → AreRowsIn first c earlier (rows ++ e ∷ [])
 rows_more first c earlier [] e all row = (subst (λ (rs : List Entry). IsRowIn first c rs e) (append-nil earlier) row, tt)

@@ -1,10 +1,7 @@
 -- The words of a mutation without those that were given up, one place after the other.
-use Rattle.std.proofs.Common.{◌≡◌, arith, ℕ, zero, suc, ◌+◌, ◌<◌, ◌≤◌, Bool, true, false, List, [], ◌∷◌, length, set, Option, None, Some, refl, sym, ◌∙◌, ap, if◌then◌else◌}
-use Rattle.std.specs.Prelude.{slice_get, slice_index, unwrap_or}
-use Rattle.std.proofs.lemmas.Option.{slice_get_within}
-use Rattle.tag_script.specs.Outcomes.{word_at}
-use Rattle.result_book.specs.Goals.{is_given_up}
-use Rattle.result_book.specs.Wants.{kept_word, kept_words, without_one}
+use Rattle.result_book.proofs.Common.{◌≡◌, arith, ℕ, zero, suc, ◌+◌, ◌<◌, ◌≤◌, Bool, true, false, List, [], ◌∷◌, length, set, Option, None, Some, refl, sym, ◌∙◌, ap, if◌then◌else◌, slice_index}
+use Rattle.result_book.proofs.Common.{unwrap_or, slice_get_within, word_at, is_given_up, kept_word, kept_words, without_one}
+use Rattle.std.specs.Prelude.{slice_get}
 
 -- the words where it is done in so many places
 abbrev pub kept_first : ℕ → ℕ → List (Option ℕ) → List ℕ → List (Option ℕ)
@@ -39,7 +36,7 @@ first_same (suc n) limit (w ∷ words) (b ∷ bounds) many is = ap (λ (l : List
 more_is : (n : ℕ) → n + 1 ≡ suc n
 more_is n = omega arith
 
-inside_by : (o : Option (Option ℕ)) (word : ℕ) → unwrap_or o None ≡ Some word → o ≡ Some (Some word)
+pub inside_by : (o : Option (Option ℕ)) (word : ℕ) → unwrap_or o None ≡ Some word → o ≡ Some (Some word)
 inside_by None word at = absurd (let never : None ≡ Some word = at in cc)
 inside_by (Some w) word at = ap Some at
 

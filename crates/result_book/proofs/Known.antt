@@ -1,16 +1,12 @@
 -- Answers with the last words of their tests, as the read tests have them.
-use Rattle.std.proofs.Common.{◌≡◌, inl, inr, arith, ℕ, ◌<◌, Bool, true, false, not, ◌==◌, List, [], ◌∷◌, ◌++◌, Option, None, Some, refl, sym, ◌∙◌, ap, if◌then◌else◌}
-use Rattle.std.specs.Prelude.{filter, find, is_none, slice_index, unwrap_or, slice_get}
-use Rattle.std.specs.Option.{option_or}
-use Rattle.std.proofs.lemmas.Bool.Decides.{Decides-eqb, eqb_tells}
-use Rattle.std.proofs.lemmas.Option.{slice_get_within}
-use Rattle.tag_script.specs.Courses.{Course, ended, failed, reads}
-use Rattle.tag_script.specs.Outcomes.{AreAmong, Outcome, is_expected, outcome_of, word_at}
-use Rattle.tag_script.proofs.Below.{AreBelow}
-use Rattle.result_book.specs.Scripts.{Answer, known_first, known_of, word_in, words_of}
+use Rattle.result_book.proofs.Common.{◌≡◌, inl, inr, arith, ℕ, ◌<◌, Bool, true, false, not, ◌==◌, List, [], ◌∷◌, ◌++◌, Option, None, Some, refl, sym, ◌∙◌, ap, if◌then◌else◌, filter, find, is_none}
+use Rattle.result_book.proofs.Common.{slice_index, option_or, Decides-eqb, eqb_tells, slice_get_within, Course, ended, failed, reads, AreAmong, Outcome, is_expected, outcome_of, word_at, AreBelow}
+use Rattle.result_book.proofs.Common.{Answer, known_first, known_of, word_in, words_of}
+use Rattle.std.specs.Prelude.{slice_get}
 use Rattle.result_book.proofs.Asked.{AreSome, is_missing, read_out}
 use Rattle.result_book.proofs.Pairs.{none_or}
 use Rattle.result_book.proofs.Words.{length-words_of, word_at-words_of}
+use Rattle.result_book.proofs.Keeping.{inside_by}
 
 -- each answer has the last word of its test
 abbrev pub AreOf : List (Option ℕ) → List Answer → Type 0
@@ -43,10 +39,6 @@ word_or last t word None a false same known behind at = absurd (let never : None
 pub word_of : (last : List (Option ℕ)) (answers : List Answer) (t word : ℕ) → AreOf last answers → word_in answers t ≡ Some word → word_at last t ≡ Some word
 word_of last [] t word all at = absurd (let never : None ≡ Some word = at in cc)
 word_of last (a ∷ answers) t word all at = word_or last t word (word_in answers t) a (a.test == t) ((Decides-eqb a.test t).0) all.0 (word_of last answers t word all.1) at
-
-inside_by : (o : Option (Option ℕ)) (word : ℕ) → unwrap_or o None ≡ Some word → o ≡ Some (Some word)
-inside_by None word at = absurd (let never : None ≡ Some word = at in cc)
-inside_by (Some w) word at = ap Some at
 
 -- a test with a word is one of 16
 word_inside : (answers : List Answer) (t word : ℕ) → word_at (words_of answers) t ≡ Some word → t < 16

@@ -1,12 +1,6 @@
 -- Whether a pair of mutation and test has a row, and what its last row says.
-use Rattle.std.proofs.Common.{◌≡◌, inl, inr, arith, ℕ, suc, Bool, true, ◌==◌, List, [], ◌∷◌, Option, None, Some, refl, sym, ◌∙◌, ap, subst, if◌then◌else◌}
-use Rattle.std.specs.Option.{option_or}
-use Rattle.std.specs.List.{All, Any}
-use Rattle.std.proofs.lemmas.Bool.Decides.{eqb_tells}
-use Rattle.std.proofs.lemmas.List.Elements.{All-nil, All-cons}
-use Rattle.mcy_keeper.specs.declared.book.Entry.{Entry}
-use Rattle.result_book.specs.Scripts.{word_in}
-use Rattle.result_book.specs.Rows.{answer_of, answers_of, IsPair, bound_in, is_pair}
+use Rattle.result_book.proofs.Common.{◌≡◌, inl, inr, arith, ℕ, suc, Bool, true, ◌==◌, List, [], ◌∷◌, Option, None, Some, refl, sym, ◌∙◌, ap, subst, if◌then◌else◌, option_or, All, Any, eqb_tells}
+use Rattle.result_book.proofs.Common.{All-nil, All-cons, Entry, word_in, answer_of, answers_of, IsPair, bound_in, is_pair}
 use Rattle.result_book.proofs.Grouping.{pair_no, pair_yes}
 
 pub none_or : {X : Type 0} (a b : Option X) → option_or a b ≡ None → (a ≡ None) × (b ≡ None)

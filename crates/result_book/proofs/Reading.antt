@@ -1,20 +1,9 @@
 -- The read tests of a mutation: they tell all, are found one after the other, and are those that the script asks for where they have no
 -- word.
-use Rattle.std.proofs.Common.{◌≡◌, ◌≢◌, ◌↔◌, inl, inr, arith, ℕ, zero, suc, ◌<◌, Bool, true, false, ◌==◌, List, [], ◌∷◌, ◌++◌, Option, None, Some, refl, sym, ◌∙◌, ap, subst, set, length, if◌then◌else◌}
-use Rattle.std.specs.Prelude.{◌⊎◌, find, is_none, slice_index_or}
-use Rattle.std.specs.Option.{option_or}
-use Rattle.std.specs.List.{All, Any}
-use Rattle.std.proofs.lemmas.Bool.Decides.{Decides-eqb, eqb_tells}
-use Rattle.std.proofs.lemmas.List.Elements.{All-cons, All-nil}
-use Rattle.tag_script.specs.declared.answer.Ask.{Ask}
-use Rattle.tag_script.specs.declared.answer.Ask.TheVariants.{Need, Done, AssertFailed, Unexpected}
-use Rattle.tag_script.specs.Courses.{course_of}
-use Rattle.tag_script.specs.Outcomes.{script_outcome, told, word_at}
-use Rattle.tag_script.proofs.Below.{AreBelow}
-use Rattle.result_book.specs.declared.campaign.Campaign.{Campaign}
-use Rattle.result_book.specs.Campaigns.{IsFit}
-use Rattle.result_book.specs.Reads.{answer_known, answer_needed, next_read}
-use Rattle.result_book.specs.Scripts.{Answer, IsRead, ask, ask_by, asked_on, filled, known_first, known_of, read_answers, word_in, words_of}
+use Rattle.result_book.proofs.Common.{◌≡◌, ◌≢◌, ◌↔◌, inl, inr, arith, ℕ, zero, suc, ◌<◌, Bool, true, false, ◌==◌, List, [], ◌∷◌, ◌++◌, Option, None, Some, refl, sym, ◌∙◌, ap, subst, set, length}
+use Rattle.result_book.proofs.Common.{if◌then◌else◌, ◌⊎◌, find, is_none, slice_index_or, option_or, All, Any, Decides-eqb, eqb_tells, All-cons, All-nil, Ask, Need, Done, AssertFailed, Unexpected}
+use Rattle.result_book.proofs.Common.{course_of, script_outcome, told, word_at, AreBelow, Campaign, IsFit, answer_known, answer_needed, next_read, Answer, IsRead, ask, ask_by, asked_on, filled}
+use Rattle.result_book.proofs.Common.{known_first, known_of, read_answers, word_in, words_of}
 use Rattle.result_book.proofs.Asking.{among_filled, need_by}
 use Rattle.result_book.proofs.Asked.{AreApart, AreSome, all_some, ask_first, asked_apart, asked_fit, few_asked, find_below, find_lacks, is_missing, need_found, some_among}
 use Rattle.result_book.proofs.Known.{AreOf, are_some, find_alike, known_alike, known_among, known_are, part_are, read_alike, rest_are}

@@ -1,18 +1,10 @@
 -- No refused book is well-formed.
-use Rattle.std.proofs.Common.{◌≡◌, ◌≢◌, inl, inr, arith, ℕ, ◌<◌, ◌≤◌, Bool, true, false, List, [], ◌∷◌, ◌++◌, slice_get, Option, None, Some, refl, sym, ◌∙◌, ap, subst}
-use Rattle.std.specs.Prelude.{IsSomeAnd}
-use Rattle.mcy_keeper.specs.declared.book.Entry.{Entry}
-use Rattle.mcy_keeper.specs.declared.book.Book.{Book}
-use Rattle.mcy_keeper.specs.Books.{is_first}
-use Rattle.result_book.specs.declared.campaign.Campaign.{Campaign}
+use Rattle.result_book.proofs.Common.{◌≡◌, ◌≢◌, inl, inr, arith, ℕ, ◌<◌, ◌≤◌, Bool, true, false, List, [], ◌∷◌, ◌++◌, slice_get, Option, None, Some, refl, sym, ◌∙◌, ap, subst, IsSomeAnd, Entry, Book}
+use Rattle.result_book.proofs.Common.{is_first, Campaign, Seq, NoMutation, NoTest, Twice, NotAsked, BadWord, Mark, Tags, Bound, Unknown, mark_of, tags_of, word_code, ask_on, bound_in, AreRowsIn}
+use Rattle.result_book.proofs.Common.{IsGivenUp, IsRow, IsRowIn, IsWellFormed, meta_in_second, DifferFirst, HasNone, IsAskedOn, IsBoundFault, IsFirstFault, IsOnce, IsRefused, IsRowFault, IsTwice}
 use Rattle.result_book.specs.declared.check.RowFault.{RowFault}
-use Rattle.result_book.specs.declared.check.RowFault.TheVariants.{Seq, NoMutation, NoTest, Twice, NotAsked, BadWord, Mark, Tags, Bound}
 use Rattle.result_book.specs.declared.check.BookError.{BookError}
 use Rattle.result_book.specs.declared.check.BookError.TheVariants.{Meta, Mutation, Row, Stray, Memory}
-use Rattle.result_book.specs.declared.script.TestWord.TheVariants.{Unknown}
-use Rattle.result_book.specs.Scripts.{mark_of, tags_of, word_code}
-use Rattle.result_book.specs.Rows.{ask_on, bound_in, AreRowsIn, IsGivenUp, IsRow, IsRowIn, IsWellFormed, meta_in_second}
-use Rattle.result_book.specs.BookFaults.{DifferFirst, HasNone, IsAskedOn, IsBoundFault, IsFirstFault, IsOnce, IsRefused, IsRowFault, IsTwice}
 use Rattle.result_book.proofs.Growing.{rows_rest}
 use Rattle.result_book.proofs.FaultLemmas.{ask_on-same}
 use Rattle.result_book.proofs.Pairs.{not_both, old_pair}

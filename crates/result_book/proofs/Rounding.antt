@@ -1,13 +1,7 @@
 -- Round numbers, digit by digit, and how many there are up to a number.
-use Rattle.std.proofs.Common.{◌≡◌, ◌≢◌, inl, inr, arith, ℕ, ◌+◌, ◌*◌, ◌/◌, ◌%◌, ◌^◌, ◌<◌, ◌≤◌, Bool, true, false, ◌==◌, ◌&&◌, List, [], ◌∷◌, ◌++◌, drop, decimal, length, refl, sym, ◌∙◌, ap, if◌then◌else◌, nat_lt, length-append}
-use Rattle.std.specs.List.{list_all}
-use Rattle.std.specs.Prelude.{◌⊎◌}
-use Rattle.std.proofs.lemmas.Bool.{and_parts, le-ltb, lt-ltb, ltb-false, ltb-true}
-use Rattle.std.proofs.lemmas.Bool.Decides.{eqb_tells}
+use Rattle.result_book.proofs.Common.{◌≡◌, ◌≢◌, inl, inr, arith, ℕ, ◌+◌, ◌*◌, ◌/◌, ◌%◌, ◌^◌, ◌<◌, ◌≤◌, Bool, true, false, ◌==◌, ◌&&◌, List, [], ◌∷◌, ◌++◌, drop, decimal, length, refl, sym, ◌∙◌, ap}
+use Rattle.result_book.proofs.Common.{if◌then◌else◌, nat_lt, length-append, list_all, ◌⊎◌, and_parts, le-ltb, lt-ltb, ltb-false, ltb-true, eqb_tells, drop-append-le, list_all-append, is_round}
 use Rattle.std.proofs.lemmas.Fmt.{decimal_digit, decimal_nonempty, decimal_step}
-use Rattle.std.proofs.lemmas.List.{drop-append-le}
-use Rattle.std.proofs.lemmas.List.Folds.{list_all-append}
-use Rattle.result_book.specs.Rounds.{is_round}
 
 abbrev is_zero : ℕ → Bool
 is_zero digit = digit == 48

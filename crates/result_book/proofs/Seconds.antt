@@ -1,21 +1,10 @@
 -- What is tested of a row of a book of the first format: it is the same after its rows as they are and as they are in the second format.
-use Rattle.std.proofs.Common.{◌≡◌, ◌↔◌, inl, inr, ℕ, suc, ◌+◌, ◌<◌, ◌≤◌, Bool, true, false, List, [], ◌∷◌, ◌++◌, length, Option, None, Some, refl, sym, ◌∙◌, ap, subst, take, drop, get_or}
-use Rattle.std.specs.Prelude.{◌⊎◌, IsTrue}
-use Rattle.std.specs.List.{All}
+use Rattle.result_book.proofs.Common.{◌≡◌, ◌↔◌, inl, inr, ℕ, suc, ◌+◌, ◌<◌, ◌≤◌, Bool, true, false, List, [], ◌∷◌, ◌++◌, length, Option, None, Some, refl, sym, ◌∙◌, ap, subst, take, drop, get_or, ◌⊎◌}
+use Rattle.result_book.proofs.Common.{IsTrue, All, eqb_tells, same_from_decides, length-map, take_all, take_more, Entry, Book, IsFirst, is_first, Need, Campaign, Seq, NoMutation, NoTest, Twice}
+use Rattle.result_book.proofs.Common.{NotAsked, BadWord, Mark, Tags, Bound, Answer, IsRead, ask, mark_of, tags_of, word_in, AreRowsIn, IsPair, IsRow, IsRowIn, answer_of, answers_of, ask_on, history}
+use Rattle.result_book.proofs.Common.{second_row, HasNone, HasOne, IsAnswered, IsAsked, IsAskedOn, IsFirstFault, IsMarked, IsOnce, IsPlaced, IsRowFault, IsStateOf, Progress}
 use Rattle.std.proofs.Math.Seq.{split_at}
-use Rattle.std.proofs.lemmas.Bool.Decides.{eqb_tells, same_from_decides}
-use Rattle.std.proofs.lemmas.List.{length-map, take_all, take_more}
-use Rattle.mcy_keeper.specs.declared.book.Entry.{Entry}
-use Rattle.mcy_keeper.specs.declared.book.Book.{Book}
-use Rattle.mcy_keeper.specs.Books.{IsFirst, is_first}
-use Rattle.tag_script.specs.declared.answer.Ask.TheVariants.{Need}
-use Rattle.result_book.specs.declared.campaign.Campaign.{Campaign}
 use Rattle.result_book.specs.declared.check.RowFault.{RowFault}
-use Rattle.result_book.specs.declared.check.RowFault.TheVariants.{Seq, NoMutation, NoTest, Twice, NotAsked, BadWord, Mark, Tags, Bound}
-use Rattle.result_book.specs.Scripts.{Answer, IsRead, ask, mark_of, tags_of, word_in}
-use Rattle.result_book.specs.Rows.{AreRowsIn, IsPair, IsRow, IsRowIn, answer_of, answers_of, ask_on, history, second_row}
-use Rattle.result_book.specs.BookFaults.{HasNone, HasOne, IsAnswered, IsAsked, IsAskedOn, IsFirstFault, IsMarked, IsOnce, IsPlaced, IsRowFault}
-use Rattle.result_book.specs.States.{IsStateOf, Progress}
 use Rattle.result_book.proofs.Formats.{history_rows, second_in_form, seconds, seconds_answers, seconds_more, seconds_same}
 use Rattle.result_book.proofs.Grouping.{answers_of-other, answers_of-same}
 use Rattle.result_book.proofs.Growing.{rows_more}

@@ -1,20 +1,9 @@
 -- When a row that is right otherwise may stand after rows, and when its pair has too many.
-use Rattle.std.proofs.Common.{◌≡◌, ◌≢◌, inl, inr, arith, ℕ, ◌<◌, ◌≤◌, Bool, true, false, not, ◌==◌, ◌&&◌, List, [], ◌∷◌, nat_lt, slice_get, slice_index, Option, None, Some, refl, sym, ◌∙◌, ap, subst}
-use Rattle.std.specs.Prelude.{◌⊎◌, IsSomeAnd, IsTrue, unwrap_or}
-use Rattle.std.proofs.lemmas.Bool.{and_parts, ltb-false, ltb-true}
-use Rattle.std.proofs.lemmas.Bool.Decides.{Decides-eqb, eqb_tells}
-use Rattle.std.proofs.lemmas.Option.{get_or_from_slice_get}
-use Rattle.mcy_keeper.specs.declared.book.Entry.{Entry}
-use Rattle.tag_script.specs.Outcomes.{word_at}
-use Rattle.result_book.specs.declared.campaign.Campaign.{Campaign}
-use Rattle.result_book.specs.declared.script.TestWord.TheVariants.{Unknown}
-use Rattle.result_book.specs.Campaigns.{IsFit}
-use Rattle.result_book.specs.Goals.{is_given_up}
-use Rattle.result_book.specs.Scripts.{Answer, IsRead, asked_on, each_from, read_answers, word_code, word_in, words_of}
-use Rattle.result_book.specs.Rows.{IsNew, IsRowIn, MayStand, answers_of, bound_in, bounds_on}
-use Rattle.result_book.specs.Rounds.{is_round}
-use Rattle.result_book.specs.BookFaults.{HasNone, HasOne, IsAskedOn, IsMarked, IsOnce, IsPlaced, IsTwice, derived_bound}
-use Rattle.result_book.specs.States.{IsStateOf, Progress}
+use Rattle.result_book.proofs.Common.{◌≡◌, ◌≢◌, inl, inr, arith, ℕ, ◌<◌, ◌≤◌, Bool, true, false, not, ◌==◌, ◌&&◌, List, [], ◌∷◌, nat_lt, slice_get, Option, None, Some, refl, sym, ◌∙◌, ap, subst, ◌⊎◌}
+use Rattle.result_book.proofs.Common.{IsSomeAnd, IsTrue, unwrap_or, and_parts, ltb-false, ltb-true, Decides-eqb, eqb_tells, get_or_from_slice_get, Entry, word_at, Campaign, Unknown, IsFit}
+use Rattle.result_book.proofs.Common.{is_given_up, Answer, IsRead, asked_on, each_from, read_answers, word_code, word_in, words_of, IsNew, IsRowIn, MayStand, answers_of, bound_in, bounds_on, is_round}
+use Rattle.result_book.proofs.Common.{HasNone, HasOne, IsAskedOn, IsMarked, IsOnce, IsPlaced, IsTwice, derived_bound, IsStateOf, Progress}
+use Rattle.std.proofs.Common.{slice_index}
 use Rattle.result_book.proofs.Asking.{need_new}
 use Rattle.result_book.proofs.Each.{each_at}
 use Rattle.result_book.proofs.Known.{AreOf, known_are}

@@ -1,12 +1,6 @@
 -- What a state knows is what its rows say, and one more row.
-use Rattle.std.proofs.Common.{◌≡◌, arith, ℕ, ◌<◌, ◌≤◌, false, List, [], ◌∷◌, ◌++◌, length, set, slice_get, replicate, Option, Some, refl, sym, ◌∙◌, ap, subst}
-use Rattle.mcy_keeper.specs.declared.book.Entry.{Entry}
-use Rattle.result_book.specs.declared.campaign.Campaign.{Campaign}
-use Rattle.tag_script.specs.declared.answer.Ask.{Ask}
-use Rattle.result_book.specs.Scripts.{ask, each_from, mark_of, tags_of, words_of}
-use Rattle.result_book.specs.Campaigns.{IsFit, IsWordOf}
-use Rattle.result_book.specs.Rows.{answer_of, answers_of, ask_on, bounds_on, IsRow, MayFollow}
-use Rattle.result_book.specs.States.{IsStateOf, Progress}
+use Rattle.result_book.proofs.Common.{◌≡◌, arith, ℕ, ◌<◌, ◌≤◌, false, List, [], ◌∷◌, ◌++◌, length, set, slice_get, replicate, Option, Some, refl, sym, ◌∙◌, ap, Entry, Campaign, Ask, ask, each_from}
+use Rattle.result_book.proofs.Common.{mark_of, tags_of, words_of, IsFit, IsWordOf, answer_of, answers_of, ask_on, bounds_on, IsRow, MayFollow, IsStateOf, Progress}
 use Rattle.result_book.proofs.Each.{each_from-all, each_at, length-each_from}
 use Rattle.result_book.proofs.Words.{words_of-more}
 use Rattle.result_book.proofs.Grouping.{answers_of-other, answers_of-same, bounds_on-more, bounds_on-other, each_more}
@@ -38,14 +32,6 @@ bounds-at c rows s m state inside = ap (λ (l : List (List ℕ)). slice_get l m)
 
 pub asks-at : (c : Campaign) (rows : List Entry) (s : Progress) (m : ℕ) → IsStateOf c rows s → m < length c.mutations → slice_get s.asks m ≡ Some (ask_on c m rows)
 asks-at c rows s m state inside = ap (λ (l : List Ask). slice_get l m) state.asks ∙ each_at (λ k. ask_on c k rows) (length c.mutations) m inside
-
--- it is one of its own rows
-pub state_own : (c : Campaign) (rows : List Entry) (s : Progress) → IsStateOf c rows s → IsStateOf c s.rows s
-state_own c rows s state = subst (λ (l : List Entry). IsStateOf c l s) (sym state.rows_are) state
-
--- with room for any number of rows
-pub state_room : (c : Campaign) (rows : List Entry) (s : Progress) (n : ℕ) → IsStateOf c rows s → IsStateOf c rows (record s { spare = n })
-state_room c rows s n state = record { rows_are = state.rows_are; form = state.form; results = state.results; bounds = state.bounds; asks = state.asks }
 
 -- the state without rows
 pub state_begun : (c : Campaign) (s : Progress) (words : List (Option ℕ)) (bounds : List ℕ) (stands : Ask) (n : ℕ) → words ≡ words_of [] → bounds ≡ bounds_on 0 [] → stands ≡ ask c [] → s.rows ≡ [] → s.results ≡ replicate n words → s.bounds ≡ replicate n bounds → s.asks ≡ replicate n stands → n ≡ length c.mutations → IsStateOf c [] s

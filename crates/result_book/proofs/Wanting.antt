@@ -1,20 +1,11 @@
 -- What a run wants of a mutation, and how it is found.
-use Rattle.std.proofs.Common.{◌≡◌, ◌≢◌, inl, inr, arith, ℕ, zero, suc, ◌<◌, ◌≤◌, Bool, true, false, ◌&&◌, List, [], ◌∷◌, ◌++◌, length, Option, None, Some, refl, sym, ◌∙◌, ap, subst, if◌then◌else◌}
-use Rattle.std.specs.Prelude.{◌⊎◌, IsSomeAnd, IsTrue, find, is_none, nat_le, option_map, slice_index}
-use Rattle.std.proofs.lemmas.Bool.{and_parts, leb-true}
-use Rattle.mcy_keeper.specs.declared.book.Entry.{Entry}
-use Rattle.tag_script.specs.declared.answer.Ask.{Ask}
-use Rattle.tag_script.specs.declared.answer.Ask.TheVariants.{Need}
-use Rattle.tag_script.specs.Outcomes.{End, Outcome, assert_failed, done, first_told, script_outcome, told, unexpected, word_at}
-use Rattle.result_book.specs.declared.campaign.Campaign.{Campaign}
+use Rattle.result_book.proofs.Common.{◌≡◌, ◌≢◌, inl, inr, arith, ℕ, zero, suc, ◌<◌, ◌≤◌, Bool, true, false, ◌&&◌, List, [], ◌∷◌, ◌++◌, length, Option, None, Some, refl, sym, ◌∙◌, ap, subst}
+use Rattle.result_book.proofs.Common.{if◌then◌else◌, ◌⊎◌, IsSomeAnd, IsTrue, find, is_none, nat_le, option_map, slice_index, and_parts, leb-true, Entry, Ask, Need, End, Outcome, assert_failed, done}
+use Rattle.result_book.proofs.Common.{first_told, script_outcome, told, unexpected, word_at, Campaign, IsFit, IsGoal, is_given_up, is_in, is_open, next_bound, open_test, want_of, wanted, wanted_by}
+use Rattle.result_book.proofs.Common.{is_limit, is_round, max_limit, AreRows, MayFollow, answers_of, ask_on, bounds_on, Answer, ask_by, asked_on, filled, is_ended, known_first, known_of, read_answers}
+use Rattle.result_book.proofs.Common.{word_in, words_of, kept_word, kept_words}
 use Rattle.result_book.specs.declared.goal.Goal.{Goal}
 use Rattle.result_book.specs.declared.goal.Want.{Want}
-use Rattle.result_book.specs.Campaigns.{IsFit}
-use Rattle.result_book.specs.Goals.{IsGoal, is_given_up, is_in, is_open, next_bound, open_test, want_of, wanted, wanted_by}
-use Rattle.result_book.specs.Rounds.{is_limit, is_round, max_limit}
-use Rattle.result_book.specs.Rows.{AreRows, MayFollow, answers_of, ask_on, bounds_on}
-use Rattle.result_book.specs.Scripts.{Answer, ask_by, asked_on, filled, is_ended, known_first, known_of, read_answers, word_in, words_of}
-use Rattle.result_book.specs.Wants.{kept_word, kept_words}
 use Rattle.result_book.proofs.Asked.{all_some, ask_first, asked_fit, ends_on, found_below, is_missing}
 use Rattle.result_book.proofs.Asking.{found_by, found_true}
 use Rattle.result_book.proofs.Grouping.{answers_of-other, bounds_on-other, length-bounds_on}
@@ -202,14 +193,14 @@ follows_by c rows m t limit (Some word) fit mutation goal inside at is =
       most = round.1;
     })
 
-wanted_at : (c : Campaign) (words : List (Option ℕ)) (limit : ℕ) (found : Option ℕ) (want : Want) → option_map (want_of c words limit) found ≡ Some want → (found ≡ Some want.test) × (want.bound ≡ next_bound c limit want.test (word_at words want.test))
+pub wanted_at : (c : Campaign) (words : List (Option ℕ)) (limit : ℕ) (found : Option ℕ) (want : Want) → option_map (want_of c words limit) found ≡ Some want → (found ≡ Some want.test) × (want.bound ≡ next_bound c limit want.test (word_at words want.test))
 wanted_at c words limit None want is = absurd (let never : None ≡ Some want = is in cc)
 wanted_at c words limit (Some t) want is =
     let e : Some (want_of c words limit t) ≡ Some want = is in
     let same : want_of c words limit t ≡ want = cc in
     (ap (λ (w : Want). Some w.test) same, subst (λ (w : Want). w.bound ≡ next_bound c limit w.test (word_at words w.test)) same refl)
 
-wanted_in : (b : Bool) (found : Option Want) (want : Want) → (if b then found else None) ≡ Some want → found ≡ Some want
+pub wanted_in : (b : Bool) (found : Option Want) (want : Want) → (if b then found else None) ≡ Some want → found ≡ Some want
 wanted_in true found want is = is
 wanted_in false found want is = absurd (let never : None ≡ Some want = is in cc)
 

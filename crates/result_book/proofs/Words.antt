@@ -1,9 +1,6 @@
 -- The last words of a mutation's answers, one more at the end.
-use Rattle.std.proofs.Common.{◌≡◌, ◌≢◌, inl, inr, ℕ, ◌<◌, List, [], ◌∷◌, ◌++◌, set, Option, None, Some, refl, sym, ◌∙◌, ap, length, replicate}
-use Rattle.std.specs.Prelude.{unwrap_or}
-use Rattle.std.proofs.lemmas.Bool.Decides.{eqb_tells}
-use Rattle.tag_script.specs.Outcomes.{word_at}
-use Rattle.result_book.specs.Scripts.{Answer, each_from, word_in, words_of}
+use Rattle.result_book.proofs.Common.{◌≡◌, ◌≢◌, inl, inr, ℕ, ◌<◌, List, [], ◌∷◌, ◌++◌, set, Option, None, Some, refl, sym, ◌∙◌, ap, length, replicate, unwrap_or, eqb_tells, word_at, Answer, each_from}
+use Rattle.result_book.proofs.Common.{word_in, words_of}
 use Rattle.result_book.proofs.Each.{each_at, each_set, length-each_from}
 
 -- the last word of a test counts

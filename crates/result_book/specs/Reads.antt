@@ -7,6 +7,8 @@ use Rattle.result_book.specs.declared.answer.Answer.{Answer}
 use Rattle.result_book.specs.declared.campaign.Campaign.{Campaign}
 use Rattle.result_book.specs.Scripts.{ask_by}
 
+-- For proofs alone.
+
 -- what a test answered, where it has a word
 abbrev pub answer_known : ℕ → Option ℕ → Option Answer
 answer_known test None = None

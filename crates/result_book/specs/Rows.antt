@@ -111,11 +111,6 @@ IsFinished c book = (m : ℕ) → m < length c.mutations → is_ended (ask_on c 
 abbrev pub bound_of : Campaign → Entry → ℕ
 bound_of c e = if is_sim_test c e.test then e.bound else c.conflicts
 
--- a row of a book of the first format, where this is true, or of the second, as it is in the second
-abbrev pub second_row : Bool → Campaign → Entry → Entry
-second_row true c e = record e { bound = bound_of c e }
-second_row false c e = e
-
 abbrev pub bounds_of : Campaign → List Entry → List ℕ
 bounds_of c rows = map (bound_of c) rows
 
@@ -138,3 +133,10 @@ groups_from c m n rows = each_from (λ k. read_on c k rows) m n
 -- those of each mutation of a campaign
 abbrev pub groups : Campaign → List Entry → List (List Answer)
 groups c rows = groups_from c 0 (length c.mutations) rows
+
+-- For proofs alone.
+
+-- a row of a book of the first format, where this is true, or of the second, as it is in the second
+abbrev pub second_row : Bool → Campaign → Entry → Entry
+second_row true c e = record e { bound = bound_of c e }
+second_row false c e = e

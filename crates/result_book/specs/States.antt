@@ -19,12 +19,6 @@ pub record Progress : Type 0 where
   -- for how many more rows there is room
   pub spare : ℕ
 
--- what always holds of a state's fields: room was made for the spare rows, and a u32 counts the rows and the mutations
-pub record HasRoom (rows capacity spare mutations : ℕ) : Type 0 where
-  pub room : rows + spare ≤ capacity
-  pub few_rows : rows < 2 ^ 32
-  pub few_mutations : mutations < 2 ^ 32
-
 -- The state is that of the campaign's book with these rows, of the second format: they are in form, and what is known of each
 -- mutation is what they say.
 pub record IsStateOf (c : Campaign) (rows : List Entry) (s : Progress) : Type 0 where
@@ -33,3 +27,11 @@ pub record IsStateOf (c : Campaign) (rows : List Entry) (s : Progress) : Type 0 
   pub results : s.results ≡ each_from (λ m. words_of (answers_of m rows)) 0 (length c.mutations)
   pub bounds : s.bounds ≡ each_from (λ m. bounds_on m rows) 0 (length c.mutations)
   pub asks : s.asks ≡ each_from (λ m. ask_on c m rows) 0 (length c.mutations)
+
+-- For proofs alone.
+
+-- what always holds of a state's fields: room was made for the spare rows, and a u32 counts the rows and the mutations
+pub record HasRoom (rows capacity spare mutations : ℕ) : Type 0 where
+  pub room : rows + spare ≤ capacity
+  pub few_rows : rows < 2 ^ 32
+  pub few_mutations : mutations < 2 ^ 32

@@ -2,6 +2,8 @@
 use Rattle.std.specs.Prelude.{ℕ, List, ◌∷◌, Option, None, Some, if◌then◌else◌, slice_set}
 use Rattle.result_book.specs.Goals.{is_given_up}
 
+-- For proofs alone.
+
 -- a word, unless it was given up under less than the limit
 abbrev pub kept_word : ℕ → Option ℕ → ℕ → Option ℕ
 kept_word limit None bound = None

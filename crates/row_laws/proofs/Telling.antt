@@ -33,14 +33,14 @@ right_row : (c : Prepared) (rows : List Entry) (row : Entry) → Contains rows r
 right_row c rows row (k, less, is) h = right_at c rows row k less is h
 
 -- a word of a test on a site, true or given up
-abbrev IsRightAt : Prepared → ℕ → Option Site → Option Trial → (bound word : ℕ) → Type 0
+abbrev pub IsRightAt : Prepared → ℕ → Option Site → Option Trial → (bound word : ℕ) → Type 0
 IsRightAt c test o t bound word = IsTrueWordAt c test o t word ⊎ IsGivenUpAt c o t bound word
 
 -- that of an equality
 right_equality : (c : Prepared) (row : Entry) → IsOfEquality c row → IsRightWord c row.mutation row.test row.bound row.word → IsRightAt c row.test (slice_get c.sites row.mutation) (Some Equality) row.bound row.word
 right_equality c row at right = subst (λ (t : Option Trial). IsRightAt c row.test (slice_get c.sites row.mutation) t row.bound row.word) at right
 
-pass_at : OneStepEqualityLasts → (c : Prepared) (test number bound word : ℕ) (o : Option Site) → slice_get c.sites number ≡ o → IsRightAt c test o (Some Equality) bound word → word ≡ word_code Pass → IsOfMutant c number EqualOnAllRuns
+pub pass_at : OneStepEqualityLasts → (c : Prepared) (test number bound word : ℕ) (o : Option Site) → slice_get c.sites number ≡ o → IsRightAt c test o (Some Equality) bound word → word ≡ word_code Pass → IsOfMutant c number EqualOnAllRuns
 pass_at lasts c test number bound word None placed (inl h) is = absurd h
 pass_at lasts c test number bound word None placed (inr h) is = absurd h
 pass_at lasts c test number bound word (Some site) placed (inl (inl h)) is = record { site = site; placed = placed; is = lasts (design c.netlist) (mutant c.netlist site) h.1 }

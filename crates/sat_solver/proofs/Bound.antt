@@ -1,15 +1,8 @@
 -- A legal log without the empty lemma has fewer than 3 ^ k lemmas over k free bits.
-use Rattle.std.proofs.Common.{◌≡◌, ℕ, zero, suc, ◌+◌, ◌-◌, ◌*◌, ◌^◌, ◌<◌, ◌≤◌, Bool, true, false, List, [], ◌∷◌, ◌++◌, length, get_or, map, ℤ, pos, Option, Some, None, refl, ap, sym, ◌∙◌, inl, inr, subst, arith}
-use Rattle.std.specs.Prelude.{All, Contains}
-use Rattle.std.proofs.lemmas.Bool.Decides.{eqb_tells, leb_tells}
+use Rattle.sat_solver.proofs.Common.{◌≡◌, ℕ, zero, suc, ◌+◌, ◌-◌, ◌*◌, ◌^◌, ◌<◌, ◌≤◌, Bool, true, false, List, [], ◌∷◌, ◌++◌, length, get_or, map, ℤ, pos, Option, Some, None, refl, ap, sym, ◌∙◌, inl}
+use Rattle.sat_solver.proofs.Common.{inr, subst, arith, All, Contains, eqb_tells, leb_tells, length-map, Contains-append_left, Contains-push, All-head, All-tail, variable, Known, none, with_false}
+use Rattle.sat_solver.proofs.Common.{is_some_false, is_named, AreFree, IsWithin, IsLegalAfter, IsLegalLog, IsFalse, literal-same, false-from_in, within-from_false}
 use Rattle.std.proofs.Math.Nat.{pow-succ'}
-use Rattle.std.proofs.lemmas.List.{length-map}
-use Rattle.std.proofs.lemmas.List.Elements.{Contains-append_left, Contains-push, All-head, All-tail}
-use Rattle.clause_store.specs.Clauses.{variable}
-use Rattle.clause_store.specs.Propagation.{Known, none, with_false, is_some_false}
-use Rattle.lrat_checker.specs.LegalLogs.{is_named, AreFree, IsWithin, IsLegalAfter, IsLegalLog}
-use Rattle.lrat_checker.specs.Steps.{IsFalse}
-use Rattle.lrat_checker.proofs.Within.{literal-same, false-from_in, within-from_false}
 use Rattle.lrat_checker.proofs.Logs.{free-within}
 use Rattle.sat_solver.proofs.Counting.{length-free}
 
@@ -23,11 +16,6 @@ digit (Some false) = 2
 abbrev code : ℕ → Known → ℕ
 code zero known = 0
 code (suc k) known = digit (known (suc k)) * 3 ^ k + code k known
-
-digit-small : (o : Option Bool) → digit o ≤ 2
-digit-small None = omega arith
-digit-small (Some true) = omega arith
-digit-small (Some false) = omega arith
 
 power : (k : ℕ) → 3 ^ suc k ≡ 3 * 3 ^ k
 power k = pow-succ' 3 k

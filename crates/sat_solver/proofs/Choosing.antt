@@ -1,15 +1,6 @@
 -- Pairs that can be guards from now on.
-use Rattle.std.proofs.Common.{◌≡◌, ◌≢◌, ℕ, ◌<◌, ◌≤◌, Bool, true, false, not, List, length, take, get_or, ◌-◌, ℤ, pos, negsuc, Option, Some, None, refl, ap, sym, ◌∙◌, inl, inr, ◌⊎◌, arith}
-use Rattle.std.specs.Prelude.{Contains}
-use Rattle.std.specs.Bool.{OnTrue}
-use Rattle.std.proofs.lemmas.Bool.Decides.{leb_tells}
-use Rattle.std.proofs.lemmas.List.{get_or_default}
-use Rattle.clause_store.specs.Clauses.{variable}
-use Rattle.clause_store.specs.Propagation.{Known, literal, is_some_false}
-use Rattle.lrat_checker.specs.Tables.{known_of}
-use Rattle.sat_solver.specs.declared.watches.Pair.{Pair}
-use Rattle.sat_solver.specs.Trails.{assigned, literal_at, AreApart, AreStarts, IsUnwound}
-use Rattle.sat_solver.specs.Watches.{IsSafe}
+use Rattle.sat_solver.proofs.Common.{◌≡◌, ◌≢◌, ℕ, ◌<◌, ◌≤◌, Bool, true, false, not, List, length, take, get_or, ◌-◌, ℤ, pos, negsuc, Option, Some, None, refl, ap, sym, ◌∙◌, inl, inr, ◌⊎◌, arith}
+use Rattle.sat_solver.proofs.Common.{Contains, OnTrue, leb_tells, get_or_default, variable, Known, literal, is_some_false, known_of, Pair, assigned, literal_at, AreApart, AreStarts, IsUnwound, IsSafe}
 use Rattle.sat_solver.proofs.Walks.{open-before}
 use Rattle.sat_solver.proofs.Settled.{IsBelow, below-take, literal-below}
 use Rattle.sat_solver.proofs.Guards.{clash}
@@ -19,7 +10,7 @@ use Rattle.sat_solver.proofs.Guarded.{start-within}
 abbrev pub IsRecent : List ℤ → List ℕ → ℤ → Type 0
 IsRecent literals starts l = (s : ℕ) → Contains starts s → assigned (take s literals) (variable l) ≡ None
 
-is-open : (known : Known) (l : ℤ) → known (variable l) ≡ None → literal known l ≡ None
+pub is-open : (known : Known) (l : ℤ) → known (variable l) ≡ None → literal known l ≡ None
 is-open known (pos n) e = e
 is-open known (negsuc n) e = rw e refl
 

@@ -1,8 +1,5 @@
 -- As many free literals as there are free variables at most.
-use Rattle.std.proofs.Common.{◌≡◌, ℕ, zero, suc, ◌+◌, ◌≤◌, Bool, true, false, cond, ◌||◌, List, [], ◌∷◌, length, ℤ, refl, ap, inl, inr, nat_eq, arith}
-use Rattle.std.proofs.lemmas.Bool.Decides.{eqb_tells}
-use Rattle.clause_store.specs.Clauses.{variable}
-use Rattle.lrat_checker.specs.LegalLogs.{is_named, AreFree}
+use Rattle.sat_solver.proofs.Common.{◌≡◌, ℕ, zero, suc, ◌+◌, ◌≤◌, Bool, true, false, cond, ◌||◌, List, [], ◌∷◌, length, ℤ, refl, ap, inl, inr, nat_eq, arith, eqb_tells, variable, is_named, AreFree}
 
 without : ℕ → List ℤ → List ℤ
 without v [] = []

@@ -1,17 +1,6 @@
 -- Clauses that are still to be looked at.
-use Rattle.std.proofs.Common.{◌≡◌, ◌≢◌, ℕ, ◌+◌, ◌<◌, ◌≤◌, List, length, get_or, ℤ, Some, ap, sym, ◌∙◌, inl, inr, ◌⊎◌, arith}
-use Rattle.std.specs.Prelude.{swap_remove}
-use Rattle.std.proofs.lemmas.Bool.Decides.{eqb_tells}
-use Rattle.clause_store.specs.Clauses.{AreOver}
-use Rattle.clause_store.specs.Propagation.{Known}
-use Rattle.lrat_checker.specs.Tables.{known_of}
-use Rattle.sat_solver.specs.declared.propagator.Propagator.{Propagator}
-use Rattle.sat_solver.specs.declared.watches.Pair.{Pair}
-use Rattle.sat_solver.specs.declared.watches.Watches.{Watches}
-use Rattle.sat_solver.specs.Occurrences.{list_of}
-use Rattle.sat_solver.specs.Propagators.{IsKept}
-use Rattle.sat_solver.specs.Watches.{pair_of, IsGuard, AreGuards, StandsFrom}
-use Rattle.sat_solver.specs.Looks.{IsNext, propagated}
+use Rattle.sat_solver.proofs.Common.{◌≡◌, ◌≢◌, ℕ, ◌+◌, ◌<◌, List, length, get_or, ℤ, Some, ap, sym, ◌∙◌, inl, inr, ◌⊎◌, arith, swap_remove, eqb_tells, AreOver, Known, known_of, Propagator, Pair}
+use Rattle.sat_solver.proofs.Common.{Watches, list_of, IsKept, pair_of, IsGuard, StandsFrom, IsNext, propagated}
 use Rattle.sat_solver.proofs.Settled.{IsBelow}
 use Rattle.sat_solver.proofs.Guards.{guard-more}
 use Rattle.sat_solver.proofs.Watched.{stands-in, stands-removed}
@@ -23,9 +12,6 @@ AreDue before now w place list = (n : ℕ) (pair : Pair) → pair_of w n ≡ Som
 
 pub due-begin : (count : ℕ) (clauses : List (List ℤ)) (p : Propagator) (l : ℤ) → AreOver count clauses → IsKept clauses p → IsNext l p → AreDue (propagated p) (known_of p.trail.values.items) p.watches 0 (list_of p.watches.lists l)
 due-begin count clauses p l over kept next n pair e = elim (guard-or count clauses p l n pair over kept next e) [ inl guard ↦ inl guard | inr has ↦ inr (stands-in (list_of p.watches.lists l) n has) ]
-
-pub due-end : (before now : Known) (w : Watches) (place : ℕ) (list : List ℕ) → length list ≤ place → AreDue before now w place list → AreGuards before now w
-due-end before now w place list end due n pair e = elim (due n pair e) [ inl guard ↦ guard | inr stands ↦ absurd (omega (arith, stands.1, stands.2, end)) ]
 
 -- what is left after a look at the number at this place
 module _ (before now later : Known) (old new : Watches) (place number : ℕ) (list : List ℕ) (inside : place < length list) (at : get_or list place 0 ≡ number) (below : IsBelow now later) (others : (n : ℕ) → n ≢ number → pair_of new n ≡ pair_of old n) (here : (pair : Pair) → pair_of new number ≡ Some pair → IsGuard before later pair) (due : AreDue before now old place list) where

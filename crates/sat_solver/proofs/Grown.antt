@@ -1,13 +1,6 @@
 -- Trails to which literals were added.
-use Rattle.std.proofs.Common.{◌≡◌, ℕ, ◌+◌, ◌*◌, ◌<◌, ◌≤◌, Bool, List, [], ◌∷◌, ◌++◌, length, get_or, set, ℤ, Option, Some, None, is_some, cond, refl, ap, ◌∙◌, arith}
-use Rattle.std.specs.Prelude.{count_by}
-use Rattle.std.proofs.lemmas.List.{take-append-le, length_push, length-set}
-use Rattle.std.proofs.lemmas.List.Sums.{sum_by-le}
-use Rattle.clause_store.specs.Clauses.{variable}
-use Rattle.clause_store.specs.Propagation.{is_positive, IsUnit, clause_at}
-use Rattle.lrat_checker.specs.Tables.{known_of}
-use Rattle.sat_solver.specs.declared.trail.Trail.{Trail}
-use Rattle.sat_solver.specs.Trails.{IsGrown, IsUnchanged}
+use Rattle.sat_solver.proofs.Common.{◌≡◌, ℕ, ◌+◌, ◌*◌, ◌<◌, ◌≤◌, Bool, List, [], ◌∷◌, ◌++◌, length, get_or, set, ℤ, Option, Some, None, is_some, cond, refl, ◌∙◌, arith, count_by, take-append-le}
+use Rattle.sat_solver.proofs.Common.{length_push, length-set, sum_by-le, variable, is_positive, IsUnit, clause_at, known_of, Trail, IsGrown}
 use Rattle.sat_solver.proofs.Pushes.{trail-unit, count-with, variable-open}
 
 pub grown-refl : (clauses : List (List ℤ)) (t : Trail) → IsGrown clauses t t
@@ -20,15 +13,6 @@ grown-trans clauses a b c p q = record {
   len = q.len ∙ p.len;
   prefix = λ n h. (let first = p.prefix n h in let second = q.prefix n first.0 in (second.0, second.1 ∙ first.1));
   count = omega (arith, p.count, q.count);
-}
-
-pub grown-same : (clauses : List (List ℤ)) (old new : Trail) → IsUnchanged old new → new.starts.items ≡ old.starts.items → IsGrown clauses old new
-grown-same clauses old new same starts = record {
-  trail = λ free is. rw (same.values, same.literals, same.reasons, starts) is;
-  starts = starts;
-  len = ap (length {A = Option Bool}) same.values;
-  prefix = λ n h. rw same.literals (h, refl);
-  count = rw same.values (omega arith);
 }
 
 -- a unit clause's literal was made true

@@ -1,16 +1,7 @@
 -- All pairs are guards, as the trail and the pairs change.
-use Rattle.std.proofs.Common.{◌≡◌, ℕ, suc, ◌<◌, ◌≤◌, List, [], ◌∷◌, ◌++◌, length, take, get_or, set, ℤ, Option, Some, None, ap, sym, ◌∙◌, inl, inr, subst, arith}
-use Rattle.std.specs.Prelude.{All, Contains}
-use Rattle.std.proofs.lemmas.Bool.Decides.{eqb_tells}
-use Rattle.std.proofs.lemmas.List.{take-append-le, take-take, length-take-le, get_or-take, get_or_default}
-use Rattle.std.proofs.lemmas.List.Elements.{Contains-push_cases, Contains-get_or}
-use Rattle.clause_store.specs.Clauses.{variable}
-use Rattle.clause_store.specs.Propagation.{Known, with_true}
-use Rattle.sat_solver.specs.declared.watches.Pair.{Pair}
-use Rattle.sat_solver.specs.declared.watches.Watches.{Watches}
-use Rattle.sat_solver.specs.Trails.{assigned, AreApart, AreStarts}
-use Rattle.sat_solver.specs.Occurrences.{numbered, IsSettled}
-use Rattle.sat_solver.specs.Watches.{pair_of, IsGuard, AreGuards, AreGuarded, AreWatched, IsSafe, AreSettled, KeepsCounted}
+use Rattle.sat_solver.proofs.Common.{◌≡◌, ℕ, suc, ◌<◌, ◌≤◌, List, [], ◌∷◌, ◌++◌, length, take, get_or, set, ℤ, Option, Some, None, ap, sym, ◌∙◌, inl, inr, subst, arith, All, Contains, eqb_tells}
+use Rattle.sat_solver.proofs.Common.{take-append-le, take-take, length-take-le, get_or-take, get_or_default, Contains-push_cases, Contains-get_or, variable, Known, with_true, Pair, Watches, assigned}
+use Rattle.sat_solver.proofs.Common.{AreApart, AreStarts, numbered, IsSettled, pair_of, IsGuard, AreGuards, AreGuarded, AreWatched, IsSafe, AreSettled, KeepsCounted}
 use Rattle.sat_solver.proofs.Pushes.{take-all, assigned-push}
 use Rattle.sat_solver.proofs.Settled.{IsBelow, below-with, below-take, settled-more}
 use Rattle.sat_solver.proofs.Guards.{guard-more, guard-less, guard-settled, option-or}

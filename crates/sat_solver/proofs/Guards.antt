@@ -1,14 +1,7 @@
 -- Pairs of literals as guards, and why a clause with one is settled.
-use Rattle.std.proofs.Common.{◌≡◌, ◌≢◌, zero, suc, ◌<◌, Bool, true, false, not, List, [], ◌∷◌, length, get_or, ℤ, pos, negsuc, neg_ℤ, Option, Some, None, option_map, refl, ap, sym, ◌∙◌, inl, inr, ◌⊎◌, subst, arith}
-use Rattle.std.specs.Prelude.{All, Contains}
-use Rattle.std.proofs.lemmas.Bool.Decides.{eqb_tells}
-use Rattle.std.proofs.lemmas.List.{get_or_default}
-use Rattle.std.proofs.lemmas.List.Elements.{All-head, All-tail}
-use Rattle.clause_store.specs.Clauses.{variable}
-use Rattle.clause_store.specs.Propagation.{Known, with_true, literal, is_some_false, left, IsQuiet}
-use Rattle.sat_solver.specs.declared.watches.Pair.{Pair}
-use Rattle.sat_solver.specs.Occurrences.{place_of, IsSettled}
-use Rattle.sat_solver.specs.Watches.{AreDifferent, IsPair, IsOther, IsGuard}
+use Rattle.sat_solver.proofs.Common.{◌≡◌, ◌≢◌, zero, suc, ◌<◌, Bool, true, false, not, List, [], ◌∷◌, length, get_or, ℤ, pos, negsuc, neg_ℤ, Option, Some, None, option_map, refl, ap, sym, ◌∙◌, inl}
+use Rattle.sat_solver.proofs.Common.{inr, ◌⊎◌, subst, arith, All, Contains, eqb_tells, get_or_default, All-head, All-tail, variable, Known, with_true, literal, is_some_false, left, IsQuiet, Pair}
+use Rattle.sat_solver.proofs.Common.{place_of, IsSettled, AreDifferent, IsPair, IsOther, IsGuard, literal-same}
 use Rattle.sat_solver.proofs.Walks.{with_true-other, with_true-same}
 use Rattle.sat_solver.proofs.Settled.{IsBelow, literal-below}
 
@@ -42,10 +35,6 @@ option-or (Some x) = inr (x, refl)
 literal-made : (known : Known) (l : ℤ) → literal (with_true known l) l ≡ Some true
 literal-made known (pos n) = with_true-same known (pos n)
 literal-made known (negsuc n) = ap (option_map not) (with_true-same known (negsuc n))
-
-literal-same : (a b : Known) (l : ℤ) → a (variable l) ≡ b (variable l) → literal a l ≡ literal b l
-literal-same a b (pos n) e = e
-literal-same a b (negsuc n) e = ap (option_map not) e
 
 same-or-neg : (l m : ℤ) → 0 < variable l → variable l ≡ variable m → (l ≡ m) ⊎ (l ≡ neg_ℤ m)
 same-or-neg (pos n) (pos k) some e = inl (ap pos e)

@@ -1,35 +1,11 @@
 -- Searches that go on.
-use Rattle.std.proofs.Common.{◌≡◌, ℕ, zero, suc, ◌+◌, ◌<◌, ◌≤◌, List, [], ◌∷◌, ◌++◌, length, ℤ, Option, Some, None, refl, ap, sym, ◌∙◌, length-append, get_or, replicate, cond, Bool, is_some, arith}
-use Rattle.std.specs.Prelude.{All, IfSome, MatchOption, ⊤, count_by}
-use Rattle.std.proofs.lemmas.List.{append-nil, append_assoc, length_push}
-use Rattle.std.proofs.lemmas.List.Elements.{All-push}
-use Rattle.std.proofs.lemmas.List.Sums.{sum_by-cons}
-use Rattle.lrat_checker.specs.LegalLogs.{EndsEmpty}
+use Rattle.sat_solver.proofs.Common.{◌≡◌, ℕ, zero, suc, ◌+◌, ◌<◌, List, [], ◌∷◌, ◌++◌, length, ℤ, Option, Some, None, refl, ap, ◌∙◌, get_or, replicate, cond, Bool, is_some, arith, All, IfSome}
+use Rattle.sat_solver.proofs.Common.{MatchOption, ⊤, count_by, length_push, All-push, sum_by-cons, EndsEmpty, Trail, IsOpened, IsReady, Hunt, IsRunning, Finds, IsEnd}
 use Rattle.sat_solver.specs.declared.found.Found.{Found}
 use Rattle.sat_solver.specs.declared.found.Found.TheVariants.{Model, Refuted, Spent}
-use Rattle.sat_solver.specs.declared.trail.Trail.{Trail}
-use Rattle.sat_solver.specs.Trails.{IsOpened, IsReady}
-use Rattle.sat_solver.specs.Found.{Hunt, IsRunning, IsContinued, Finds, IsEnd}
 
 abbrev opened : Option Bool
 opened = None
-
-pub continued-refl : (h : Hunt) → IsContinued h h 0
-continued-refl h = record { clauses = refl; variables = refl; free = refl; limit = refl; more = []; lemmas = sym (append-nil h.log.lemmas); few = omega arith }
-
-pub continued-trans : (a b c : Hunt) (m n : ℕ) → IsContinued a b m → IsContinued b c n → IsContinued a c (m + n)
-continued-trans a b c m n p q = record {
-  clauses = q.clauses ∙ p.clauses;
-  variables = q.variables ∙ p.variables;
-  free = q.free ∙ p.free;
-  limit = q.limit ∙ p.limit;
-  more = p.more ++ q.more;
-  lemmas = q.lemmas ∙ ap (λ (xs : List (List ℤ)). xs ++ q.more) p.lemmas ∙ append_assoc a.log.lemmas p.more q.more;
-  few = let e : length (p.more ++ q.more) ≡ length p.more + length q.more = length-append p.more q.more in omega (arith, e, p.few, q.few);
-}
-
-pub continued-more : (a b : Hunt) (m n : ℕ) → m ≤ n → IsContinued a b m → IsContinued a b n
-continued-more a b m n h p = record { clauses = p.clauses; variables = p.variables; free = p.free; limit = p.limit; more = p.more; lemmas = p.lemmas; few = omega (arith, p.few, h) }
 
 -- where the last lemma isn't empty none is
 pub none-empty-push : (lemmas : List (List ℤ)) (lemma : List ℤ) → All (λ e. 0 < length e) lemmas → (EndsEmpty (lemmas ++ lemma ∷ []) → ⊥) → All (λ e. 0 < length e) (lemmas ++ lemma ∷ [])

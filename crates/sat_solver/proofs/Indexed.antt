@@ -1,16 +1,8 @@
 -- Lists and counts of clauses, as clauses are added and literals are made true and open.
-use Rattle.std.proofs.Common.{◌≡◌, ◌≢◌, ℕ, zero, suc, ◌+◌, ◌^◌, ◌<◌, ◌≤◌, Bool, true, false, cond, List, [], ◌∷◌, ◌++◌, length, get_or, replicate, ℤ, neg_ℤ, None, refl, ap, sym, ◌∙◌, inl, inr, ◌⊎◌, subst, nat_eq, arith}
+use Rattle.sat_solver.proofs.Common.{◌≡◌, ◌≢◌, ℕ, zero, suc, ◌+◌, ◌^◌, ◌<◌, ◌≤◌, Bool, true, false, cond, List, [], ◌∷◌, ◌++◌, length, get_or, replicate, ℤ, neg_ℤ, None, refl, ap, sym, ◌∙◌, inl, inr}
+use Rattle.sat_solver.proofs.Common.{◌⊎◌, subst, nat_eq, arith, All, count_by, eqb_tells, leb_tells, length_push, get_or_append_left, get_or_push, All-push, sum_by-cons, sum_by-append}
+use Rattle.sat_solver.proofs.Common.{get_or-le-sum_by, variable, Known, with_true, Counts, place_of, times, numbered, list_of, IsAdded, AreHolders, valued, AreCounted, IsIndexed, CanCount, AreRaised}
 use Rattle.std.proofs.Math.ListN.{get_or-eq_default}
-use Rattle.std.specs.Prelude.{All, count_by}
-use Rattle.std.proofs.lemmas.Bool.Decides.{eqb_tells, leb_tells}
-use Rattle.std.proofs.lemmas.List.{length_push, get_or_append_left, get_or_push}
-use Rattle.std.proofs.lemmas.List.Elements.{All-push}
-use Rattle.std.proofs.lemmas.List.Sums.{sum_by-cons, sum_by-append, get_or-le-sum_by}
-use Rattle.clause_store.specs.Clauses.{variable}
-use Rattle.clause_store.specs.Propagation.{Known, with_true}
-use Rattle.sat_solver.specs.declared.counts.Counts.{Counts}
-use Rattle.sat_solver.specs.Occurrences.{place_of, times, numbered, list_of, IsAdded, AreHolders, valued, AreCounted}
-use Rattle.sat_solver.specs.Propagators.{IsIndexed, CanCount, AreRaised}
 use Rattle.sat_solver.proofs.Listed.{self-count}
 use Rattle.sat_solver.proofs.Valued.{valued-true, valued-false, valued-le}
 

@@ -1,20 +1,9 @@
 -- What always holds of propagation, step by step.
-use Rattle.std.proofs.Common.{◌≡◌, ℕ, zero, suc, ◌+◌, ◌*◌, ◌^◌, ◌<◌, ◌≤◌, Bool, true, false, List, [], ◌∷◌, ◌++◌, length, take, get_or, set, replicate, ℤ, neg_ℤ, Option, Some, None, is_some, refl, ap, sym, ◌∙◌, inl, inr, subst, arith}
-use Rattle.std.specs.Prelude.{All, Contains, sum_by, slice_get, ◌-◌}
-use Rattle.std.proofs.lemmas.List.{length_push, length-set, take-append-le, take_more, length-take-le, get_or-take}
-use Rattle.std.proofs.lemmas.Option.{slice_get-get_or, slice_get_within}
-use Rattle.std.proofs.lemmas.List.Elements.{All-contains}
-use Rattle.std.proofs.lemmas.List.Sums.{get_or-le-sum_by}
-use Rattle.clause_store.specs.Clauses.{variable, AreOver}
-use Rattle.clause_store.specs.Propagation.{Known, with_true, is_positive, IsQuiet}
-use Rattle.lrat_checker.specs.Tables.{known_of}
-use Rattle.sat_solver.specs.declared.trail.Trail.{Trail}
-use Rattle.sat_solver.specs.declared.propagator.Propagator.{Propagator}
-use Rattle.sat_solver.specs.declared.watches.Watches.{Watches}
-use Rattle.sat_solver.specs.Trails.{assigned, literal_at, AreStarts, IsUnwound, IsGrown}
-use Rattle.sat_solver.specs.Occurrences.{times, numbered, list_of, IsAdded, valued, IsSettled}
-use Rattle.sat_solver.specs.Watches.{pair_of, AreGuarded, AreGuards, AreSettled}
-use Rattle.sat_solver.specs.Propagators.{IsKept, IsSteady, IsAssigned, IsExamined, CanCount, AreRaised}
+use Rattle.sat_solver.proofs.Common.{◌≡◌, ℕ, zero, suc, ◌+◌, ◌^◌, ◌<◌, ◌≤◌, Bool, true, false, List, [], ◌∷◌, ◌++◌, length, take, get_or, set, ℤ, neg_ℤ, Option, Some, None, refl, ap, sym, ◌∙◌, inl}
+use Rattle.sat_solver.proofs.Common.{inr, subst, arith, All, Contains, sum_by, slice_get, length_push, length-set, take-append-le, get_or-take, slice_get-get_or, slice_get_within, All-contains}
+use Rattle.sat_solver.proofs.Common.{get_or-le-sum_by, variable, AreOver, Known, with_true, is_positive, IsQuiet, known_of, Trail, Propagator, Watches, assigned, literal_at, AreStarts, IsUnwound}
+use Rattle.sat_solver.proofs.Common.{IsGrown, times, numbered, list_of, valued, IsSettled, pair_of, AreGuarded, AreGuards, AreSettled, IsKept, IsSteady, IsAssigned, IsExamined, CanCount, AreRaised}
+use Rattle.std.specs.Prelude.{◌-◌}
 use Rattle.sat_solver.proofs.Walks.{assigned-more}
 use Rattle.sat_solver.proofs.Pushes.{take-all, apart-push, assigned-push, table-with, count-with, starts-grow, starts-push}
 use Rattle.sat_solver.proofs.Settled.{IsBelow, below-with, below-take, settled-more, settled-quiet, settled-next, quiet-settled}

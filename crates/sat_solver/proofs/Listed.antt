@@ -1,12 +1,8 @@
 -- Lists of occurrences: what stands in them, and what counting through them gives.
-use Rattle.std.proofs.Common.{◌≡◌, ℕ, zero, suc, ◌+◌, ◌-◌, ◌*◌, ◌^◌, ◌<◌, ◌≤◌, Bool, true, false, cond, List, [], ◌∷◌, ◌++◌, map, length, take, get_or, set, replicate, ℤ, pos, negsuc, neg_ℤ, refl, ap, sym, ◌∙◌, inl, inr, nat_eq, arith}
-use Rattle.std.specs.Prelude.{count_by}
-use Rattle.std.proofs.lemmas.Bool.Decides.{eqb_tells}
-use Rattle.std.proofs.lemmas.List.{map-set, get_or-map, length-set, get_or-set_same, get_or-set_other, append-nil, append_assoc, take-append-le, take_all, take-take, length-take-le}
-use Rattle.std.proofs.lemmas.List.{replicate-append-replicate, length-append, length-replicate}
-use Rattle.std.proofs.lemmas.List.Sums.{sum_by_more, sum_by-take-le}
-use Rattle.clause_store.specs.Clauses.{variable}
-use Rattle.sat_solver.specs.Occurrences.{place_of, is_literal, times, list_of, IsAdded}
+use Rattle.sat_solver.proofs.Common.{◌≡◌, ℕ, zero, suc, ◌+◌, ◌-◌, ◌*◌, ◌^◌, ◌<◌, ◌≤◌, Bool, true, false, cond, List, [], ◌∷◌, ◌++◌, length, take, get_or, set, replicate, ℤ, pos, negsuc, neg_ℤ, refl}
+use Rattle.sat_solver.proofs.Common.{ap, sym, ◌∙◌, inl, inr, nat_eq, arith, count_by, eqb_tells, length-set, get_or-set_same, get_or-set_other, append-nil, append_assoc, take-append-le, take_all}
+use Rattle.sat_solver.proofs.Common.{take-take, length-take-le, replicate-append-replicate, length-append, length-replicate, sum_by_more, sum_by-take-le, variable, place_of, is_literal, times}
+use Rattle.sat_solver.proofs.Common.{list_of, IsAdded}
 
 -- the place of a literal's list is within the table where its variable is
 pub place-within : (l : ℤ) (limit count : ℕ) → variable l < limit → count + 1 ≡ 2 * limit → place_of l < count
@@ -34,15 +30,6 @@ times-other l clause i h e =
     let none_ : f (is_literal l (get_or clause i (pos 0))) ≡ 0 = ap f e in
     let more : times l (take (i + 1) clause) ≡ times l (take i clause) + f (is_literal l (get_or clause i (pos 0))) = times-more l clause i h in
     omega (arith, more, none_)
-
--- what stands at a place of a table of lists
-pub list-at : {V : Type 0} (items : V → List ℕ) (lists : List V) (k : ℕ) (v : V) → k < length lists → v ≡ get_or lists k v → items v ≡ get_or (map items lists) k []
-list-at items lists k v inside e = ap items e ∙ sym (get_or-map items lists k v [] inside)
-
--- one list was changed
-pub list-changed : {V : Type 0} (items : V → List ℕ) (f : List ℕ → List ℕ) (lists : List V) (k p : ℕ) (v w : V) → k < length lists → v ≡ get_or lists k v → k ≡ p → items w ≡ f (items v) → map items (set lists k w) ≡ set (map items lists) p (f (get_or (map items lists) p []))
-list-changed items f lists k p v w inside at same changed =
-    map-set items lists k w ∙ ap (λ (xs : List ℕ). set (map items lists) k xs) (changed ∙ ap f (list-at items lists k v inside at)) ∙ ap (λ (q : ℕ). set (map items lists) q (f (get_or (map items lists) q []))) same
 
 -- Counting up and down by a list.
 

@@ -1,20 +1,9 @@
 -- A look at a clause that may be watched at a literal that has become false.
-use Rattle.std.proofs.Common.{◌≡◌, ◌≢◌, ℕ, ◌+◌, ◌<◌, ◌≤◌, Bool, true, false, cond, List, [], ◌∷◌, ◌++◌, length, take, get_or, set, replicate, ℤ, pos, neg_ℤ, Option, Some, None, refl, ap, sym, ◌∙◌, inl, inr, ◌⊎◌, subst, arith}
-use Rattle.std.specs.Prelude.{All, Contains, swap_remove}
-use Rattle.std.proofs.lemmas.Bool.Decides.{eqb_tells}
-use Rattle.std.proofs.lemmas.List.{get_or-take, length-take-le, append-nil}
-use Rattle.std.proofs.lemmas.List.Sums.{sum_by-cons}
-use Rattle.clause_store.specs.Clauses.{variable, AreOver}
-use Rattle.clause_store.specs.Propagation.{Known, with_true, literal, is_some_false, is_positive, IsQuiet}
-use Rattle.lrat_checker.specs.Tables.{known_of}
-use Rattle.sat_solver.specs.declared.propagator.Propagator.{Propagator}
-use Rattle.sat_solver.specs.declared.watches.Pair.{Pair}
-use Rattle.sat_solver.specs.declared.watches.Watches.{Watches}
-use Rattle.sat_solver.specs.Trails.{assigned, literal_at, IsGrown, IsConflict}
-use Rattle.sat_solver.specs.Occurrences.{place_of, is_literal, times, numbered, list_of, IsAdded}
-use Rattle.sat_solver.specs.Propagators.{IsKept, IsSteady, IsExamined}
-use Rattle.sat_solver.specs.Watches.{pair_of, IsPair, IsOther, IsGuard, AreGuards, AreWatched, AreSettled, KeepsCounted}
-use Rattle.sat_solver.specs.Looks.{IsNext, propagated, HasMoved, HasGuard}
+use Rattle.sat_solver.proofs.Common.{◌≡◌, ◌≢◌, ℕ, ◌+◌, ◌<◌, ◌≤◌, Bool, true, false, cond, List, [], ◌∷◌, ◌++◌, length, take, get_or, set, replicate, ℤ, pos, neg_ℤ, Option, Some, None, refl, ap, sym}
+use Rattle.sat_solver.proofs.Common.{◌∙◌, inl, inr, ◌⊎◌, subst, arith, All, Contains, swap_remove, eqb_tells, get_or-take, length-take-le, append-nil, sum_by-cons, variable, AreOver, Known, with_true}
+use Rattle.sat_solver.proofs.Common.{literal, is_some_false, is_positive, IsQuiet, known_of, Propagator, Pair, Watches, assigned, literal_at, IsGrown, IsConflict, place_of, is_literal, times}
+use Rattle.sat_solver.proofs.Common.{numbered, list_of, IsAdded, IsKept, IsSteady, IsExamined, pair_of, IsPair, IsOther, IsGuard, AreGuards, AreWatched, AreSettled, KeepsCounted, IsNext, propagated}
+use Rattle.sat_solver.proofs.Common.{HasMoved, HasGuard}
 use Rattle.sat_solver.proofs.Pushes.{take-all}
 use Rattle.sat_solver.proofs.Walks.{assigned-more, assigned-at}
 use Rattle.sat_solver.proofs.Settled.{IsBelow, below-take, literal-below}

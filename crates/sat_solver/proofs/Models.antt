@@ -1,13 +1,9 @@
 -- A quiet trail under which no free bit is open gives a model.
-use Rattle.std.proofs.Common.{◌≡◌, ◌≢◌, ℕ, zero, suc, ◌+◌, ◌-◌, ◌<◌, ◌≤◌, Bool, true, false, not, cond, ◌||◌, List, [], ◌∷◌, ◌++◌, length, take, drop, get_or, ℤ, pos, negsuc, Option, Some, None, option_map, refl, ap, sym, ◌∙◌, inl, inr, ◌⊎◌, subst, arith}
-use Rattle.std.specs.Prelude.{All}
+use Rattle.sat_solver.proofs.Common.{◌≡◌, ◌≢◌, ℕ, zero, suc, ◌+◌, ◌<◌, ◌≤◌, Bool, true, false, not, ◌||◌, List, [], ◌∷◌, ◌++◌, length, get_or, ℤ, pos, negsuc, Option, Some, None, option_map, refl}
+use Rattle.sat_solver.proofs.Common.{inl, inr, subst, arith, All, leb_tells, All-head, All-tail, variable, value, IsModel, AreOver, Known, literal, is_some_false, left, IsQuiet, is_some_true}
+use Rattle.sat_solver.proofs.Common.{values_of}
 use Rattle.std.specs.List.{list_any}
-use Rattle.std.proofs.lemmas.Bool.Decides.{leb_tells}
-use Rattle.std.proofs.lemmas.List.Elements.{All-head, All-tail}
-use Rattle.clause_store.specs.Clauses.{variable, value, IsModel, AreOver}
-use Rattle.clause_store.specs.Propagation.{Known, literal, is_some_false, left, IsQuiet}
 use Rattle.clause_encoder.specs.Miters.{Settles}
-use Rattle.sat_solver.specs.Found.{is_some_true, values_of}
 
 -- where the free bits have values and nothing is false or unit, all variables have values
 pub settled : (clauses : List (List ℤ)) (variables free : ℕ) (known : Known) → Settles clauses variables free → All (IsQuiet known) clauses → ((v : ℕ) → 0 < v → v ≤ free → known v ≢ None) → (n v : ℕ) → v < n → 0 < v → v ≤ variables → known v ≢ None

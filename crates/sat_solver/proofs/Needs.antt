@@ -1,18 +1,10 @@
 -- The walk down a trail, step by step.
-use Rattle.std.proofs.Common.{◌≡◌, ◌≢◌, ℕ, zero, suc, ◌+◌, ◌<◌, ◌≤◌, Bool, true, false, not, cond, ◌||◌, List, [], ◌∷◌, ◌++◌, length, take, get_or, reverse, ℤ, pos, negsuc, Option, Some, None, option_map, refl, ap, sym, ◌∙◌, inl, inr, subst, nat_eq, if◌then◌else◌, arith}
-use Rattle.std.specs.Prelude.{All}
-use Rattle.std.proofs.lemmas.Bool.Decides.{eqb_tells, leb_tells}
-use Rattle.std.proofs.lemmas.List.{take_all, reverse-append}
-use Rattle.std.proofs.lemmas.List.Elements.{All-head, All-tail}
-use Rattle.std.proofs.lemmas.List.Folds.{list_any-append}
-use Rattle.clause_store.specs.Clauses.{variable}
-use Rattle.clause_store.specs.Propagation.{Known, none, with_value, with_true, with_false, is_positive, literal, is_some_false, left, IsUnit, IsFalsified, clause_at, EndsInConflict}
-use Rattle.lrat_checker.specs.LegalLogs.{is_named}
-use Rattle.lrat_checker.specs.Steps.{IsFalse}
-use Rattle.lrat_checker.proofs.Within.{literal-same, with_false-other}
-use Rattle.sat_solver.specs.Trails.{assigned, literal_at, AreApart}
-use Rattle.sat_solver.specs.Needs.{is_needed, Serves, Derive}
+use Rattle.sat_solver.proofs.Common.{◌≡◌, ◌≢◌, ℕ, zero, suc, ◌+◌, ◌<◌, ◌≤◌, Bool, true, false, not, cond, ◌||◌, List, [], ◌∷◌, ◌++◌, length, take, get_or, reverse, ℤ, pos, negsuc, Option, Some, None}
+use Rattle.sat_solver.proofs.Common.{option_map, refl, ap, sym, ◌∙◌, inl, inr, subst, if◌then◌else◌, arith, All, eqb_tells, leb_tells, take_all, reverse-append, All-head, All-tail, variable, Known}
+use Rattle.sat_solver.proofs.Common.{none, with_value, with_true, with_false, is_positive, literal, is_some_false, left, IsUnit, IsFalsified, clause_at, EndsInConflict, is_named, IsFalse}
+use Rattle.sat_solver.proofs.Common.{literal-same, with_false-other, assigned, literal_at, AreApart, is_needed, Serves, Derive, named-push}
 use Rattle.sat_solver.proofs.Walks.{assigned-at, places-apart, place-of, with_true-same, with_true-other}
+use Rattle.sat_solver.proofs.Choosing.{is-open}
 
 -- what is left of a clause hangs on which of its literals are false alone
 pub left-same : (known other : Known) (clause : List ℤ) → All (λ l. is_some_false (literal known l) ≡ is_some_false (literal other l)) clause → left known clause ≡ left other clause
@@ -40,10 +32,6 @@ pub literal-from : (known : Known) (l : ℤ) (b : Bool) → known (variable l) �
 literal-from known (pos n) b e = e
 literal-from known (negsuc n) b e = ap (option_map not) e
 
-pub literal-open : (known : Known) (l : ℤ) → known (variable l) ≡ None → literal known l ≡ None
-literal-open known (pos n) e = e
-literal-open known (negsuc n) e = ap (option_map not) e
-
 -- where a literal has a value, its variable has one
 pub false-variable : (known : Known) (l : ℤ) → is_some_false (literal known l) ≡ true → known (variable l) ≡ Some (not (is_positive l))
 false-variable known (pos n) h = false_at (known n) h where
@@ -68,9 +56,6 @@ derive-skip clauses literals needed lemma q used skip derive = λ known serves. 
   lemma_false = serves.lemma_false;
   open_ = λ r h k unnamed. serves.open_ r (omega (arith, h)) k unnamed;
 })
-
-pub named-push : (xs : List ℤ) (l : ℤ) (v : ℕ) → is_named (xs ++ l ∷ []) v ≡ (is_named xs v || (nat_eq v (variable l) || false))
-named-push xs l v = list_any-append (λ m. nat_eq v (variable m)) xs (l ∷ [])
 
 named-last : (xs : List ℤ) (l : ℤ) (v : ℕ) → v ≡ variable l → is_named (xs ++ l ∷ []) v ≡ true
 named-last xs l v e = named-push xs l v ∙ elim (eqb_tells v (variable l)) [ inl same ↦ rw same.0 (or-true (is_named xs v)) | inr other ↦ absurd (other.1 e) ] where
@@ -145,10 +130,10 @@ reason-unit limit literals needed lemma q clause known apart h unit all unnamed 
     let l : ℤ = literal_at literals q in
     let one : (k : ℕ) (d : ℤ) → k < length clause → (b : Bool) → is_some_false (literal (assigned (take q literals)) (get_or clause k d)) ≡ b → is_some_false (literal known (get_or clause k d)) ≡ b = λ k d within b. elim b as (λ (b : Bool). is_some_false (literal (assigned (take q literals)) (get_or clause k d)) ≡ b → is_some_false (literal known (get_or clause k d)) ≡ b) [
       | true ↦ λ e. needed-same limit literals needed lemma q q (get_or clause k d) known (omega arith) (omega (arith, h)) (all k d within) serves e
-      | false ↦ λ e. rw (left_one (assigned (take q literals)) clause l k d unit.alone within e, literal-open known l own) refl
+      | false ↦ λ e. rw (left_one (assigned (take q literals)) clause l k d unit.alone within e, is-open known l own) refl
     ] in
     let same : All (λ l. is_some_false (literal known l) ≡ is_some_false (literal (assigned (take q literals)) l)) clause = λ k d within. one k d within (is_some_false (literal (assigned (take q literals)) (get_or clause k d))) refl in
-    record { alone = left-same known (assigned (take q literals)) clause same ∙ unit.alone; open_ = literal-open known (literal_at literals q) own }
+    record { alone = left-same known (assigned (take q literals)) clause same ∙ unit.alone; open_ = is-open known (literal_at literals q) own }
 
 -- a needed place is replaced by its reason
 pub derive-expand : (clauses : List (List ℤ)) (limit : ℕ) (literals : List ℤ) (needed more : List Bool) (lemma : List ℤ) (q reason : ℕ) (clause : List ℤ) (used : List ℕ) → AreApart limit literals → q < length literals → clause_at clauses reason ≡ Some clause → IsUnit (assigned (take q literals)) clause (literal_at literals q) → ((v : ℕ) → is_needed needed v ≡ true → is_needed more v ≡ true) → All (λ m. is_needed more (variable m) ≡ true) clause → is_named lemma (variable (literal_at literals q)) ≡ false → Derive clauses literals needed lemma (q + 1) used → Derive clauses literals more lemma q (used ++ reason ∷ [])

@@ -1,14 +1,7 @@
 -- Why no lemma contains an earlier one.
-use Rattle.std.proofs.Common.{◌≡◌, ℕ, zero, suc, ◌<◌, Bool, true, false, not, cond, ◌||◌, List, [], ◌∷◌, length, drop, get_or, ℤ, None, refl, ap, sym, ◌∙◌, inl, inr, ◌⊎◌, subst, nat_eq, arith}
-use Rattle.std.specs.Prelude.{All, Contains}
-use Rattle.std.proofs.lemmas.Bool.Decides.{eqb_tells}
-use Rattle.std.proofs.lemmas.List.Elements.{All-head, All-tail, All-weaker}
-use Rattle.clause_store.specs.Clauses.{variable}
-use Rattle.clause_store.specs.Propagation.{Known, literal, is_some_false, left, IsQuiet}
-use Rattle.lrat_checker.specs.LegalLogs.{is_named, AreFree, IsWithin}
-use Rattle.lrat_checker.specs.Steps.{IsFalse}
-use Rattle.sat_solver.specs.Trails.{literal_at}
-use Rattle.sat_solver.proofs.Needs.{literal-open}
+use Rattle.sat_solver.proofs.Common.{◌≡◌, ℕ, zero, suc, ◌<◌, Bool, true, false, not, cond, ◌||◌, List, [], ◌∷◌, length, drop, get_or, ℤ, None, refl, ap, sym, ◌∙◌, inl, inr, ◌⊎◌, subst, nat_eq, arith}
+use Rattle.sat_solver.proofs.Common.{All, Contains, eqb_tells, All-head, All-tail, All-weaker, variable, Known, literal, is_some_false, left, IsQuiet, is_named, AreFree, IsWithin, IsFalse, literal_at}
+use Rattle.sat_solver.proofs.Choosing.{is-open}
 
 -- a literal whose variable no literal of the list names isn't one of them
 not-in : (lits : List ℤ) (x : ℤ) → is_named lits (variable x) ≡ false → Contains lits x → ⊥
@@ -63,7 +56,7 @@ pub quiet-by_two : (known : Known) (lemma : List ℤ) → 1 < length lemma → k
 quiet-by_two known [] h a b = absurd (omega (arith, h))
 quiet-by_two known (x ∷ []) h a b = absurd (omega (arith, h))
 quiet-by_two known (x ∷ y ∷ more) h a b =
-    let two : left known (x ∷ y ∷ more) ≡ x ∷ y ∷ left known more = rw (literal-open known x a, literal-open known y b) refl in
+    let two : left known (x ∷ y ∷ more) ≡ x ∷ y ∷ left known more = rw (is-open known x a, is-open known y b) refl in
     record {
       not_false = λ e. let wrong : x ∷ y ∷ left known more ≡ [] = sym two ∙ e in cc;
       not_unit = λ l unit. let wrong : x ∷ y ∷ left known more ≡ l ∷ [] = sym two ∙ unit.alone in cc;

@@ -1,13 +1,9 @@
 -- Some of all clauses, with their numbers.
-use Rattle.std.proofs.Common.{◌≡◌, ℕ, zero, suc, ◌+◌, ◌<◌, ◌≤◌, Bool, true, false, List, [], ◌∷◌, ◌++◌, length, take, map, get_or, ℤ, Some, None, refl, ap, sym, ◌∙◌, inl, inr, subst, length-append, arith}
-use Rattle.std.specs.Prelude.{All, sum_by, slice_get}
-use Rattle.std.proofs.lemmas.List.{take_more, take-append-le, length-take-le, length_push, get_or_append_left, get_or_push, map-append}
-use Rattle.std.proofs.lemmas.List.Elements.{All-head, All-tail, All-cons, All-push}
-use Rattle.std.proofs.lemmas.List.Sums.{sum_by-cons, sum_by_more, sum_by-take-le}
-use Rattle.std.proofs.lemmas.Option.{slice_get-get_or, slice_get_within}
-use Rattle.clause_store.specs.Propagation.{Known, with_true, clause_at, Propagates, EndsInConflict}
+use Rattle.sat_solver.proofs.Common.{◌≡◌, ℕ, zero, suc, ◌+◌, ◌<◌, ◌≤◌, Bool, true, false, List, [], ◌∷◌, ◌++◌, length, take, map, get_or, ℤ, Some, None, refl, ap, sym, ◌∙◌, inl, inr, subst, arith}
+use Rattle.sat_solver.proofs.Common.{All, sum_by, slice_get, take_more, take-append-le, length-take-le, length_push, get_or_append_left, get_or_push, map-append, All-cons, All-push, sum_by-cons}
+use Rattle.sat_solver.proofs.Common.{sum_by_more, sum_by-take-le, slice_get-get_or, slice_get_within, Known, with_true, clause_at, Propagates, EndsInConflict, picked, AreNumbers, number_of, IsPart}
+use Rattle.std.proofs.Common.{length-append}
 use Rattle.sat_solver.specs.declared.part.Part.{Part}
-use Rattle.sat_solver.specs.Parts.{picked, AreNumbers, number_of, IsPart}
 use Rattle.sat_solver.proofs.Pushes.{last_or}
 use Rattle.sat_solver.proofs.Ready.{at-more}
 
@@ -36,12 +32,6 @@ picked-skip (true ∷ flags) [] clause h = picked-nil flags
 picked-skip (false ∷ flags) [] clause h = absurd (let wrong : false ≡ true = h in cc)
 picked-skip (true ∷ flags) (x ∷ xs) clause h = picked-skip flags xs clause h
 picked-skip (false ∷ flags) (x ∷ xs) clause h = ap (λ (zs : List (List ℤ)). x ∷ zs) (picked-skip flags xs clause h)
-
-pub picked-all : (P : List ℤ → Type 0) (flags : List Bool) (xs : List (List ℤ)) → All P xs → All P (picked flags xs)
-picked-all P [] xs all = all
-picked-all P (flag ∷ flags) [] all = all
-picked-all P (true ∷ flags) (x ∷ xs) all = picked-all P flags xs (All-tail P x xs all)
-picked-all P (false ∷ flags) (x ∷ xs) all = All-cons P x (picked flags xs) (All-head P x xs all) (picked-all P flags xs (All-tail P x xs all))
 
 picked-few : (flags : List Bool) (xs : List (List ℤ)) → length (picked flags xs) ≤ length xs
 picked-few [] xs = omega arith
@@ -107,10 +97,6 @@ part-skipped flags clauses old new is next flag store numbers seen =
       numbers = rw (store, numbers) is.numbers;
     }
 
--- nothing but the room has changed
-pub part-same : (flags : List Bool) (clauses : List (List ℤ)) (old new : Part) → IsPart flags clauses old → new.store ≡ old.store → new.numbers.items ≡ old.numbers.items → new.seen ≡ old.seen → IsPart flags clauses new
-part-same flags clauses old new is store numbers seen = record { few = rw seen is.few; store = rw (store, seen) is.store; numbers = rw (store, numbers) is.numbers }
-
 -- more clauses stand behind
 pub part-more : (flags : List Bool) (clauses more : List (List ℤ)) (p : Part) → IsPart flags clauses p → IsPart flags (clauses ++ more) p
 part-more flags clauses more p is = record {
@@ -155,7 +141,7 @@ module _ (clauses part : List (List ℤ)) (numbers : List ℕ) (are : AreNumbers
     falsified = ends.falsified;
   }
 
-at-within : (part : List (List ℤ)) (hint : ℕ) (clause : List ℤ) → clause_at part hint ≡ Some clause → (1 ≤ hint) × (hint ≤ length part)
+pub at-within : (part : List (List ℤ)) (hint : ℕ) (clause : List ℤ) → clause_at part hint ≡ Some clause → (1 ≤ hint) × (hint ≤ length part)
 at-within part zero clause at = absurd (let wrong : None ≡ Some clause = at in cc)
 at-within part (suc k) clause at = (omega arith, omega (arith, slice_get_within part k clause at))
 

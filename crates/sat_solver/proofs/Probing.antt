@@ -1,19 +1,9 @@
 -- A trail over the clauses that a search looks at.
-use Rattle.std.proofs.Common.{◌≡◌, ◌≢◌, ℕ, ◌<◌, ◌≤◌, Bool, true, List, [], ◌∷◌, ◌++◌, length, take, ℤ, Option, Some, None, ap, ◌∙◌, subst, arith}
-use Rattle.std.specs.Prelude.{All, Result, Ok, Err, IfOk, OnOk, MatchOption}
-use Rattle.std.proofs.lemmas.List.{take_all, append_assoc}
-use Rattle.std.proofs.lemmas.List.Elements.{All-contains}
-use Rattle.clause_store.specs.Clauses.{variable, AreOver}
-use Rattle.clause_store.specs.Propagation.{IsQuiet}
-use Rattle.lrat_checker.specs.Tables.{known_of}
-use Rattle.lrat_checker.specs.LegalLogs.{Log}
+use Rattle.sat_solver.proofs.Common.{◌≡◌, ◌≢◌, ℕ, Bool, true, List, [], ◌∷◌, ◌++◌, length, take, ℤ, Option, Some, None, ap, ◌∙◌, subst, arith, All, Result, Ok, Err, IfOk, OnOk, MatchOption, take_all}
+use Rattle.sat_solver.proofs.Common.{append_assoc, All-contains, IsQuiet, known_of, Log, Probe, Propagator, IsOpened, IsReady, IsDecided, IsDone, IsConflict, IsKept, picked, IsPart, IsFocus, in_use}
+use Rattle.sat_solver.proofs.Common.{IsProbing}
 use Rattle.sat_solver.specs.declared.part.Part.{Part}
-use Rattle.sat_solver.specs.declared.probe.Probe.{Probe}
-use Rattle.sat_solver.specs.declared.propagator.Propagator.{Propagator}
-use Rattle.sat_solver.specs.Trails.{IsOpened, IsReady, IsDecided, IsDone, IsConflict}
-use Rattle.sat_solver.specs.Propagators.{IsKept}
-use Rattle.sat_solver.specs.Parts.{picked, IsPart, IsFocus, in_use, IsProbing}
-use Rattle.sat_solver.proofs.Picking.{picked-append, picked-all, part-more, part-none}
+use Rattle.sat_solver.proofs.Picking.{picked-append, part-more, part-none}
 use Rattle.sat_solver.proofs.Hunts.{ready-opened}
 
 -- a trail on which all is open
@@ -30,12 +20,6 @@ pub part-whole : (log : Log) (p : Probe) → IsFocus (length log.clauses) log.fr
 part-whole log p focus part seen =
     let all : take p.part.seen (log.clauses ++ log.lemmas) ≡ log.clauses ++ log.lemmas = ap (λ (n : ℕ). take n (log.clauses ++ log.lemmas)) seen ∙ take_all (length (log.clauses ++ log.lemmas)) (log.clauses ++ log.lemmas) (omega arith) in
     part.store ∙ ap (picked p.focus.left_out.items) all ∙ picked-append p.focus.left_out.items log.clauses log.lemmas focus.few
-
-pub over-in_use : (log : Log) (p : Probe) (count : ℕ) → IsFocus (length log.clauses) log.free p.focus → AreOver count (log.clauses ++ log.lemmas) → AreOver count (in_use log p)
-over-in_use log p count focus over =
-    let P : List ℤ → Type 0 = All (λ l. (0 < variable l) × (variable l ≤ count)) in
-    let Q : List (List ℤ) → Type 0 = All (All (λ l. (0 < variable l) × (variable l ≤ count))) in
-    subst Q (picked-append p.focus.left_out.items log.clauses log.lemmas focus.few) (picked-all P p.focus.left_out.items (log.clauses ++ log.lemmas) over)
 
 -- where nothing is left out, what is decided is so of all clauses and free bits
 pub done-whole : (log : Log) (p : Probe) (values : List (Option Bool)) → IsFocus (length log.clauses) log.free p.focus → p.focus.whole ≡ true → IsDecided (in_use log p) p.focus.bits.items values → IsDone (log.clauses ++ log.lemmas) log.free values

@@ -1,14 +1,8 @@
 -- Trails that grow and shrink.
-use Rattle.std.proofs.Common.{◌≡◌, ◌≢◌, ℕ, zero, suc, ◌+◌, ◌-◌, ◌<◌, ◌≤◌, Bool, true, false, not, cond, List, [], ◌∷◌, ◌++◌, length, take, drop, get_or, set, ℤ, pos, Option, Some, None, is_some, refl, ap, sym, ◌∙◌, inl, inr, ◌⊎◌, subst, nat_eq, length-append, arith}
-use Rattle.std.specs.Prelude.{All, Contains, count_by}
-use Rattle.std.proofs.lemmas.Bool.Decides.{eqb_tells, leb_tells}
-use Rattle.std.proofs.lemmas.List.{append-nil, take_all, take-append-le, take-take, take_at, length-take-le, length_push, get_or_append_left, get_or_push, get_or-set_same, get_or-set_other, get_or-take}
-use Rattle.std.proofs.lemmas.List.Elements.{Contains-append_left, Contains-push}
-use Rattle.std.proofs.lemmas.List.Sums.{sum_by-set}
-use Rattle.clause_store.specs.Clauses.{variable}
-use Rattle.clause_store.specs.Propagation.{Known, none, with_value, with_true, is_positive, literal, IsUnit, clause_at}
-use Rattle.lrat_checker.specs.Tables.{known_of}
-use Rattle.sat_solver.specs.Trails.{assigned, literal_at, IsReason, AreApart, AreStarts, AreReasoned, IsTrail, IsUnwound}
+use Rattle.sat_solver.proofs.Common.{◌≡◌, ℕ, zero, suc, ◌+◌, ◌<◌, ◌≤◌, Bool, not, cond, List, [], ◌∷◌, ◌++◌, length, take, get_or, set, ℤ, pos, Option, Some, None, is_some, refl, ap, sym, ◌∙◌, inl}
+use Rattle.sat_solver.proofs.Common.{inr, ◌⊎◌, subst, arith, Contains, count_by, eqb_tells, leb_tells, append-nil, take_all, take-append-le, take-take, take_at, length-take-le, length_push}
+use Rattle.sat_solver.proofs.Common.{get_or_append_left, get_or_push, get_or-set_same, get_or-set_other, get_or-take, Contains-append_left, Contains-push, sum_by-set, variable, Known, none}
+use Rattle.sat_solver.proofs.Common.{with_value, with_true, is_positive, literal, IsUnit, clause_at, known_of, assigned, literal_at, IsReason, AreApart, AreStarts, AreReasoned, IsTrail, IsUnwound}
 use Rattle.sat_solver.proofs.Walks.{with_all-append, with_true-other, with_true-same}
 
 -- the variable of a literal is its absolute value

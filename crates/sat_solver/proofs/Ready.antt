@@ -1,23 +1,12 @@
 -- What holds of a search's trail between its steps.
-use Rattle.std.proofs.Common.{◌≡◌, ℕ, zero, suc, ◌+◌, ◌-◌, ◌<◌, ◌≤◌, Bool, List, [], ◌∷◌, ◌++◌, length, take, get_or, set, ℤ, pos, Option, Some, None, refl, ap, sym, ◌∙◌, inl, inr, ◌⊎◌, subst, arith}
-use Rattle.std.specs.Prelude.{All, Contains}
-use Rattle.std.proofs.lemmas.Bool.Decides.{leb_tells}
-use Rattle.std.proofs.lemmas.List.{take-append-le, length_push, take_all, take-take, length-take-le, get_or-take, get_or_append_left, get_or_push, get_or-append-add, length-append}
-use Rattle.std.proofs.lemmas.List.Elements.{All-push}
-use Rattle.std.proofs.lemmas.Option.{slice_get-get_or, slice_get_within}
-use Rattle.clause_store.specs.Clauses.{variable}
-use Rattle.clause_store.specs.Propagation.{literal, is_some_false, is_positive, IsQuiet, clause_at}
-use Rattle.lrat_checker.specs.Tables.{known_of}
-use Rattle.lrat_checker.specs.LegalLogs.{AreFree, IsNew, IsLegalAfter}
-use Rattle.lrat_checker.specs.Steps.{IsFalse}
-use Rattle.lrat_checker.proofs.Within.{literal-same}
-use Rattle.sat_solver.specs.declared.trail.Trail.{Trail}
-use Rattle.sat_solver.specs.Trails.{assigned, literal_at, AreApart, IsReason, IsTrail, IsUnwound, IsGrown, IsUnchanged, IsReady}
-use Rattle.sat_solver.specs.Needs.{last_start, IsLearned}
+use Rattle.sat_solver.proofs.Common.{◌≡◌, ℕ, zero, suc, ◌+◌, ◌-◌, ◌<◌, ◌≤◌, Bool, List, [], ◌∷◌, ◌++◌, length, take, get_or, set, ℤ, pos, Option, Some, None, refl, ap, sym, ◌∙◌, inl, inr, ◌⊎◌, subst}
+use Rattle.sat_solver.proofs.Common.{arith, All, Contains, leb_tells, take-append-le, length_push, take_all, take-take, length-take-le, get_or-take, get_or_append_left, get_or_push, get_or-append-add}
+use Rattle.sat_solver.proofs.Common.{length-append, All-push, slice_get-get_or, slice_get_within, variable, literal, is_some_false, is_positive, IsQuiet, clause_at, known_of, AreFree, IsNew}
+use Rattle.sat_solver.proofs.Common.{IsLegalAfter, IsFalse, literal-same, Trail, assigned, literal_at, AreApart, IsReason, IsTrail, IsUnwound, IsGrown, IsUnchanged, IsReady, last_start, IsLearned}
 use Rattle.sat_solver.proofs.Walks.{assigned-kept}
-use Rattle.sat_solver.proofs.Needs.{literal-open}
 use Rattle.sat_solver.proofs.Pushes.{trail-decide, trail-undo, last_or}
 use Rattle.sat_solver.proofs.New.{new-by_quiet, quiet-by_two}
+use Rattle.sat_solver.proofs.Choosing.{is-open}
 
 pub ready-grown : (clauses : List (List ℤ)) (free : ℕ) (old new : Trail) → IsReady clauses free old → IsGrown clauses old new → IsReady clauses free new
 ready-grown clauses free old new ready grown = record {
@@ -80,7 +69,7 @@ legal-free clauses free earlier (lemma ∷ more) legal (suc k) d h = legal-free 
 false-before : (limit : ℕ) (literals : List ℤ) (n : ℕ) (l : ℤ) → AreApart limit literals → n ≤ length literals → IsFalse (assigned literals) l → IsFalse (assigned (take n literals)) l ⊎ (literal (assigned (take n literals)) l ≡ None)
 false-before limit literals n l apart h false_ = by (assigned (take n literals) (variable l)) refl where
   by : (o : Option Bool) → assigned (take n literals) (variable l) ≡ o → IsFalse (assigned (take n literals)) l ⊎ (literal (assigned (take n literals)) l ≡ None)
-  by None e = inr (literal-open (assigned (take n literals)) l e)
+  by None e = inr (is-open (assigned (take n literals)) l e)
   by (Some b) e =
       let place : n + (length literals - n) ≡ length literals = omega (arith, h) in
       let later : assigned (take (n + (length literals - n)) literals) (variable l) ≡ Some b = assigned-kept limit literals n (length literals - n) (variable l) b apart (omega (arith, h)) e in

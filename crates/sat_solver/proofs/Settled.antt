@@ -1,13 +1,7 @@
 -- Clauses under a part of the values, and under more of them.
-use Rattle.std.proofs.Common.{◌≡◌, ◌≢◌, ℕ, zero, suc, ◌+◌, ◌-◌, ◌<◌, ◌≤◌, Bool, true, false, not, cond, List, [], ◌∷◌, length, take, ℤ, pos, negsuc, neg_ℤ, Option, Some, None, refl, ap, sym, ◌∙◌, inl, inr, subst, nat_eq, arith}
-use Rattle.std.specs.Prelude.{All, filter}
-use Rattle.std.proofs.lemmas.Bool.Decides.{eqb_tells}
-use Rattle.std.proofs.lemmas.List.{take_all}
-use Rattle.std.proofs.lemmas.List.Sums.{length-filter, count_by-le-length}
-use Rattle.clause_store.specs.Clauses.{variable}
-use Rattle.clause_store.specs.Propagation.{Known, with_true, literal, is_some_false, left, IsUnit, IsQuiet}
-use Rattle.sat_solver.specs.Trails.{assigned, AreApart}
-use Rattle.sat_solver.specs.Occurrences.{IsSettled, times, valued}
+use Rattle.sat_solver.proofs.Common.{◌≡◌, ℕ, suc, ◌+◌, ◌-◌, ◌<◌, ◌≤◌, Bool, true, false, not, cond, List, [], ◌∷◌, length, take, ℤ, pos, negsuc, neg_ℤ, Option, Some, None, refl, ap, sym, ◌∙◌, inl}
+use Rattle.sat_solver.proofs.Common.{inr, arith, All, filter, eqb_tells, take_all, length-filter, count_by-le-length, variable, Known, with_true, literal, is_some_false, left, IsUnit, IsQuiet}
+use Rattle.sat_solver.proofs.Common.{assigned, AreApart, IsSettled, times, valued}
 use Rattle.sat_solver.proofs.Valued.{left-count, valued-false}
 use Rattle.sat_solver.proofs.Walks.{with_true-other, with_true-same, assigned-kept}
 

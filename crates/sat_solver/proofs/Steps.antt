@@ -1,20 +1,12 @@
 -- The steps of the walk that makes a lemma.
-use Rattle.std.proofs.Common.{◌≡◌, ◌≢◌, ℕ, zero, suc, ◌+◌, ◌-◌, ◌<◌, ◌≤◌, Bool, true, false, not, ◌||◌, List, [], ◌∷◌, ◌++◌, length, take, drop, get_or, reverse, ℤ, pos, negsuc, neg_ℤ, Some, None, refl, ap, sym, ◌∙◌, inl, inr, ◌⊎◌, nat_eq, if◌then◌else◌, arith}
-use Rattle.std.specs.Prelude.{All, Contains}
-use Rattle.std.proofs.lemmas.Bool.Decides.{eqb_tells, leb_tells}
-use Rattle.std.proofs.lemmas.List.{length_push, length-reverse}
-use Rattle.std.proofs.lemmas.List.Elements.{All-nil, All-push}
+use Rattle.sat_solver.proofs.Common.{◌≡◌, ◌≢◌, ℕ, zero, suc, ◌+◌, ◌-◌, ◌<◌, ◌≤◌, Bool, true, false, not, ◌||◌, List, [], ◌∷◌, ◌++◌, length, take, drop, get_or, reverse, ℤ, pos, negsuc, neg_ℤ, Some}
+use Rattle.sat_solver.proofs.Common.{None, refl, ap, sym, ◌∙◌, inl, inr, ◌⊎◌, nat_eq, if◌then◌else◌, arith, All, eqb_tells, leb_tells, length_push, length-reverse, All-nil, All-push, variable, Known}
+use Rattle.sat_solver.proofs.Common.{is_positive, is_some_false, IsUnit, IsFalsified, clause_at, is_named, IsFalse, free-push, assigned, literal_at, AreApart, IsReason, is_needed, last_start}
+use Rattle.sat_solver.proofs.Common.{NoneNeeded, IsWalked, IsLearned}
 use Rattle.std.proofs.Common.{slice_get}
-use Rattle.std.proofs.lemmas.Option.{slice_get_within}
-use Rattle.clause_store.specs.Clauses.{variable}
-use Rattle.clause_store.specs.Propagation.{Known, is_positive, is_some_false, IsUnit, IsFalsified, clause_at}
-use Rattle.lrat_checker.specs.LegalLogs.{is_named}
-use Rattle.lrat_checker.specs.Steps.{IsFalse}
-use Rattle.lrat_checker.proofs.Literals.{free-push}
-use Rattle.sat_solver.specs.Trails.{assigned, literal_at, AreApart, IsReason}
-use Rattle.sat_solver.specs.Needs.{is_needed, last_start, NoneNeeded, IsWalked, IsLearned}
 use Rattle.sat_solver.proofs.Walks.{assigned-at, open-before}
 use Rattle.sat_solver.proofs.Needs.{derive-skip, derive-stop, derive-expand, derive-start, derive-end, unnamed-push, assigned-whole, places-differ, literal-from}
+use Rattle.sat_solver.proofs.Listed.{variable-neg}
 
 -- a clause names its literals' variables
 pub named-itself : (clause : List ℤ) (k : ℕ) (d : ℤ) → k < length clause → is_named clause (variable (get_or clause k d)) ≡ true
@@ -33,11 +25,6 @@ needed-clause old new clause marks k d h = marks (variable (get_or clause k d)) 
 
 pub needed-grows : (old new : List Bool) (clause : List ℤ) → ((v : ℕ) → is_needed new v ≡ (is_needed old v || is_named clause v)) → (v : ℕ) → is_needed old v ≡ true → is_needed new v ≡ true
 needed-grows old new clause marks v h = marks v ∙ rw h refl
-
-pub variable-neg : (l : ℤ) → variable (neg_ℤ l) ≡ variable l
-variable-neg (pos zero) = refl
-variable-neg (pos (suc n)) = refl
-variable-neg (negsuc n) = refl
 
 pub positive-neg : (l : ℤ) → 0 < variable l → is_positive (neg_ℤ l) ≡ not (is_positive l)
 positive-neg (pos zero) h = absurd (omega (arith, h))
@@ -160,11 +147,6 @@ walked-end clauses free literals starts needed lemma used back walked = record {
 pub clause-read : (clauses : List (List ℤ)) (hint : ℕ) (a b : List ℤ) → clause_at clauses hint ≡ Some a → slice_get clauses (hint - 1) ≡ Some b → a ≡ b
 clause-read clauses zero a b at read = absurd (let wrong : None ≡ Some a = at in cc)
 clause-read clauses (suc k) a b at read = let e : suc k - 1 ≡ k = omega arith in let f : Some a ≡ Some b = sym at ∙ rw e at read in cc
-
--- a clause with a number is in the list
-pub clause-there : (clauses : List (List ℤ)) (hint : ℕ) (a : List ℤ) → clause_at clauses hint ≡ Some a → (1 ≤ hint) × (hint ≤ length clauses)
-clause-there clauses zero a at = absurd (let wrong : None ≡ Some a = at in cc)
-clause-there clauses (suc k) a at = (omega arith, slice_get_within clauses k a at)
 
 -- the clause that is a literal's reason
 pub reason-clause : (clauses : List (List ℤ)) (free : ℕ) (starts : List ℕ) (literals : List ℤ) (p reason : ℕ) → reason ≢ 0 → IsReason clauses free starts literals p reason → (clause : List ℤ) × (clause_at clauses reason ≡ Some clause) × IsUnit (assigned (take p literals)) clause (literal_at literals p)

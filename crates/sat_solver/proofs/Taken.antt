@@ -1,18 +1,7 @@
 -- How what holds of propagation begins, and is kept where a clause is taken in.
-use Rattle.std.proofs.Common.{◌≡◌, ℕ, zero, suc, ◌+◌, ◌*◌, ◌^◌, ◌<◌, ◌≤◌, Bool, true, false, List, [], ◌∷◌, ◌++◌, length, take, get_or, set, replicate, ℤ, neg_ℤ, Option, Some, None, is_some, refl, ap, sym, ◌∙◌, inl, inr, subst, arith}
-use Rattle.std.specs.Prelude.{All, Contains, count_by}
-use Rattle.std.proofs.lemmas.List.{length_push, length-set, take-append-le, take_more, length-take-le, get_or-take}
-use Rattle.std.proofs.lemmas.List.Elements.{All-contains}
-use Rattle.clause_store.specs.Clauses.{variable}
-use Rattle.clause_store.specs.Propagation.{Known, IsQuiet}
-use Rattle.lrat_checker.specs.Tables.{known_of}
-use Rattle.sat_solver.specs.declared.propagator.Propagator.{Propagator}
-use Rattle.sat_solver.specs.declared.watches.Pair.{Pair}
-use Rattle.sat_solver.specs.declared.watches.Watches.{Watches}
-use Rattle.sat_solver.specs.Trails.{assigned, IsOpened}
-use Rattle.sat_solver.specs.Occurrences.{times, numbered, list_of, IsAdded, valued, IsSettled}
-use Rattle.sat_solver.specs.Watches.{pair_of, IsPair, AreGuarded, AreGuards, AreWatched, IsSafe}
-use Rattle.sat_solver.specs.Propagators.{IsIndexed, IsKept}
+use Rattle.sat_solver.proofs.Common.{◌≡◌, ℕ, zero, suc, ◌+◌, ◌*◌, ◌^◌, ◌<◌, ◌≤◌, Bool, true, false, List, [], ◌∷◌, ◌++◌, length, take, get_or, replicate, ℤ, Option, Some, None, refl, ap, sym, ◌∙◌}
+use Rattle.sat_solver.proofs.Common.{subst, arith, All, Contains, count_by, take_more, length-take-le, variable, Known, IsQuiet, known_of, Propagator, Pair, Watches, assigned, IsOpened, times}
+use Rattle.sat_solver.proofs.Common.{numbered, list_of, IsAdded, valued, IsSettled, pair_of, IsPair, AreGuarded, AreGuards, AreWatched, IsSafe, IsIndexed, IsKept}
 use Rattle.sat_solver.proofs.Pushes.{take-all}
 use Rattle.sat_solver.proofs.Settled.{IsBelow, below-take, settled-quiet}
 use Rattle.sat_solver.proofs.Indexed.{indexed-added}

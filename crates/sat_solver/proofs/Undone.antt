@@ -1,14 +1,7 @@
 -- How what holds of propagation is kept where levels are taken back.
-use Rattle.std.proofs.Common.{◌≡◌, ℕ, ◌+◌, ◌<◌, ◌≤◌, List, length, take, get_or, ℤ, None, ap, sym, ◌∙◌, subst, arith}
-use Rattle.std.specs.Prelude.{All, ◌-◌}
-use Rattle.std.proofs.lemmas.List.{length-take-le, get_or-take}
-use Rattle.clause_store.specs.Clauses.{variable}
-use Rattle.clause_store.specs.Propagation.{Known, with_true, IsQuiet}
-use Rattle.lrat_checker.specs.Tables.{known_of}
-use Rattle.sat_solver.specs.declared.propagator.Propagator.{Propagator}
-use Rattle.sat_solver.specs.Trails.{assigned, literal_at, IsUnwound}
-use Rattle.sat_solver.specs.Occurrences.{IsSettled}
-use Rattle.sat_solver.specs.Propagators.{IsIndexed, IsKept}
+use Rattle.sat_solver.proofs.Common.{◌≡◌, ℕ, ◌+◌, ◌<◌, ◌≤◌, List, length, take, get_or, ℤ, None, ap, sym, ◌∙◌, subst, arith, All, length-take-le, get_or-take, variable, Known, with_true, IsQuiet}
+use Rattle.sat_solver.proofs.Common.{known_of, Propagator, assigned, literal_at, IsUnwound, IsSettled, IsIndexed, IsKept}
+use Rattle.std.specs.Prelude.{◌-◌}
 use Rattle.sat_solver.proofs.Walks.{assigned-more}
 use Rattle.sat_solver.proofs.Pushes.{take-all}
 use Rattle.sat_solver.proofs.Settled.{IsBelow, below-take, settled-quiet}

@@ -1,13 +1,7 @@
 -- How many literals of a clause are false and true, and what that says of it.
-use Rattle.std.proofs.Common.{◌≡◌, ◌≢◌, ℕ, zero, suc, ◌+◌, ◌*◌, ◌<◌, ◌≤◌, Bool, true, false, not, cond, List, [], ◌∷◌, ◌++◌, length, take, get_or, ℤ, pos, negsuc, neg_ℤ, Option, Some, None, refl, ap, sym, ◌∙◌, inl, inr, ◌⊎◌, subst, nat_eq, arith}
-use Rattle.std.specs.Prelude.{All, count_by}
-use Rattle.std.proofs.lemmas.Bool.Decides.{eqb_tells}
-use Rattle.std.proofs.lemmas.List.Elements.{All-head, All-tail}
-use Rattle.std.proofs.lemmas.List.Sums.{sum_by-cons, count_by-le-length}
-use Rattle.clause_store.specs.Clauses.{variable}
-use Rattle.clause_store.specs.Propagation.{Known, with_true, is_positive, literal, left, IsQuiet}
-use Rattle.lrat_checker.proofs.Within.{literal-same}
-use Rattle.sat_solver.specs.Occurrences.{place_of, is_literal, times, is_value, valued, ShowQuiet}
+use Rattle.sat_solver.proofs.Common.{◌≡◌, ◌≢◌, ℕ, zero, suc, ◌+◌, ◌*◌, ◌<◌, ◌≤◌, Bool, true, false, not, cond, List, [], ◌∷◌, length, get_or, ℤ, pos, negsuc, neg_ℤ, Option, Some, None, refl, ap, sym}
+use Rattle.sat_solver.proofs.Common.{◌∙◌, inl, inr, nat_eq, arith, All, count_by, eqb_tells, All-head, All-tail, sum_by-cons, count_by-le-length, variable, Known, with_true, is_positive, literal}
+use Rattle.sat_solver.proofs.Common.{left, IsQuiet, literal-same, place_of, is_literal, times, is_value, valued, ShowQuiet}
 use Rattle.sat_solver.proofs.Listed.{variable-neg}
 use Rattle.sat_solver.proofs.Walks.{with_true-other, with_true-same}
 

@@ -1,10 +1,6 @@
 -- The values of the literals of a trail.
-use Rattle.std.proofs.Common.{◌≡◌, ◌≢◌, ℕ, zero, suc, ◌+◌, ◌-◌, ◌<◌, ◌≤◌, Bool, true, false, not, List, [], ◌∷◌, ◌++◌, length, take, drop, get_or, ℤ, pos, negsuc, Option, Some, None, refl, ap, sym, ◌∙◌, inl, inr, ◌⊎◌, subst, nat_eq, arith}
-use Rattle.std.proofs.lemmas.Bool.Decides.{eqb_tells}
-use Rattle.std.proofs.lemmas.List.{take_more}
-use Rattle.clause_store.specs.Clauses.{variable}
-use Rattle.clause_store.specs.Propagation.{Known, none, with_true, is_positive}
-use Rattle.sat_solver.specs.Trails.{with_all, assigned, literal_at, AreApart}
+use Rattle.sat_solver.proofs.Common.{◌≡◌, ◌≢◌, ℕ, zero, suc, ◌+◌, ◌-◌, ◌<◌, ◌≤◌, Bool, List, [], ◌∷◌, ◌++◌, length, take, ℤ, pos, Option, Some, None, refl, ap, sym, ◌∙◌, inl, inr, arith, eqb_tells}
+use Rattle.sat_solver.proofs.Common.{take_more, variable, Known, none, with_true, is_positive, with_all, assigned, literal_at, AreApart}
 
 pub with_all-append : (known : Known) (xs ys : List ℤ) → with_all known (xs ++ ys) ≡ with_all (with_all known xs) ys
 with_all-append known [] ys = refl

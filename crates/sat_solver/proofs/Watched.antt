@@ -1,15 +1,9 @@
 -- Which clauses are watched, as pairs and lists change.
-use Rattle.std.proofs.Common.{◌≡◌, ◌≢◌, ℕ, zero, suc, ◌+◌, ◌-◌, ◌<◌, ◌≤◌, cond, List, [], ◌∷◌, ◌++◌, length, get_or, set, replicate, ℤ, Option, Some, None, refl, ap, sym, ◌∙◌, inl, inr, subst, arith}
-use Rattle.std.specs.Prelude.{All, Contains, swap_remove}
+use Rattle.sat_solver.proofs.Common.{◌≡◌, ◌≢◌, ℕ, zero, suc, ◌+◌, ◌-◌, ◌<◌, ◌≤◌, cond, List, [], ◌∷◌, ◌++◌, length, get_or, set, replicate, ℤ, Option, Some, None, refl, ap, sym, ◌∙◌, inl, inr, subst}
+use Rattle.sat_solver.proofs.Common.{arith, All, Contains, swap_remove, eqb_tells, leb_tells, length_push, length-set, length-take-le, get_or-take, get_or_append_left, get_or_push, get_or-set_same}
+use Rattle.sat_solver.proofs.Common.{get_or-set_other, get_or_default, get_or-replicate, length-replicate, Contains-append_left, Contains-append_right, get_or-le-sum_by, Pair, Watches, place_of}
+use Rattle.sat_solver.proofs.Common.{is_literal, times, numbered, list_of, IsAdded, pair_of, IsPair, IsOther, IsWatched, AreWatched, StandsFrom}
 use Rattle.std.proofs.Math.ListN.{get_or-eq_default}
-use Rattle.std.proofs.lemmas.Bool.Decides.{eqb_tells, leb_tells}
-use Rattle.std.proofs.lemmas.List.{length_push, length-set, length-take-le, get_or-take, get_or_append_left, get_or_push, get_or-set_same, get_or-set_other, get_or_default, get_or-replicate, length-replicate}
-use Rattle.std.proofs.lemmas.List.Elements.{Contains-append_left, Contains-append_right}
-use Rattle.std.proofs.lemmas.List.Sums.{get_or-le-sum_by}
-use Rattle.sat_solver.specs.declared.watches.Pair.{Pair}
-use Rattle.sat_solver.specs.declared.watches.Watches.{Watches}
-use Rattle.sat_solver.specs.Occurrences.{place_of, is_literal, times, numbered, list_of, IsAdded}
-use Rattle.sat_solver.specs.Watches.{pair_of, IsPair, IsOther, IsWatched, AreWatched, StandsFrom}
 use Rattle.sat_solver.proofs.Listed.{self-count}
 use Rattle.sat_solver.proofs.Indexed.{numbered-same, numbered-other}
 use Rattle.sat_solver.proofs.Guards.{place-tells, option-or}
@@ -64,9 +58,6 @@ stands-removed xs place from n inside low apart (k, least, within, e) =
         get_or-take (length xs - 1) (set xs place (get_or xs (length xs - 1) 0)) k 0 (omega (arith, other.1, within)) ∙ get_or-set_other xs place k (get_or xs (length xs - 1) 0) 0 elsewhere ∙ e,
       )
     ]
-
-pub removed-len : (xs : List ℕ) (place : ℕ) → length (swap_remove xs place 0) ≡ length xs - 1
-removed-len xs place = let len : length (set xs place (get_or xs (length xs - 1) 0)) ≡ length xs = length-set xs place (get_or xs (length xs - 1) 0) in length-take-le (length xs - 1) (set xs place (get_or xs (length xs - 1) 0)) (omega (arith, len))
 
 pub stands-in : (xs : List ℕ) (n : ℕ) → Contains xs n → StandsFrom 0 xs n
 stands-in xs n (k, h, e) = (k, omega arith, h, get_or_default xs k 0 n h ∙ e)

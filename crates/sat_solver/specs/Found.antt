@@ -6,14 +6,6 @@ use Rattle.lrat_checker.specs.LegalLogs.{Log, EndsEmpty}
 use Rattle.sat_solver.specs.declared.found.Found.{Found}
 use Rattle.sat_solver.specs.declared.found.Found.TheVariants.{Model, Refuted, Spent}
 
-abbrev pub is_some_true : Option Bool → Bool
-is_some_true (Some b) = b
-is_some_true None = false
-
--- the values of the variables, false where one is open
-abbrev pub values_of : Known → Values
-values_of known = λ v. is_some_true (known v)
-
 -- the values in a list by variable
 abbrev pub listed_values : List Bool → Values
 listed_values values = λ v. slice_index_or values v false
@@ -43,6 +35,16 @@ pub record IsContinued (old new : Hunt) (most : ℕ) : Type 0 where
   pub more : List (List ℤ)
   pub lemmas : new.log.lemmas ≡ old.log.lemmas ++ more
   pub few : length more ≤ most
+
+-- For proofs alone.
+
+abbrev pub is_some_true : Option Bool → Bool
+is_some_true (Some b) = b
+is_some_true None = false
+
+-- the values of the variables, false where one is open
+abbrev pub values_of : Known → Values
+values_of known = λ v. is_some_true (known v)
 
 -- what a log says, after a lemma was added to a log without the empty lemma
 abbrev pub IsEnd : List (List ℤ) → ℕ → Option Found → Type 0

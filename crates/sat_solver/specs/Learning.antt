@@ -2,6 +2,8 @@
 use Rattle.std.specs.Prelude.{◌≡◌, ◌+◌, ◌-◌, ◌<◌, ◌≤◌, ◌^◌, ◌++◌, ◌∷◌, [], List, ℤ, length, sum_by}
 use Rattle.lrat_checker.specs.LegalLogs.{Log}
 
+-- For proofs alone.
+
 -- there is room for one more lemma of at most 2,048 literals
 pub record IsRoomy (log : Log) : Type 0 where
   pub number : length (log.clauses ++ log.lemmas) < 2 ^ 31 - 1

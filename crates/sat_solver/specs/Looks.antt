@@ -10,6 +10,8 @@ use Rattle.sat_solver.specs.Trails.{assigned, literal_at, IsGrown, IsConflict}
 use Rattle.sat_solver.specs.Occurrences.{list_of}
 use Rattle.sat_solver.specs.Watches.{pair_of, IsGuard, KeepsCounted}
 
+-- For proofs alone.
+
 -- the negation of the next literal to propagate
 pub record IsNext (l : ℤ) (p : Propagator) : Type 0 where
   pub within : p.head < length p.trail.literals.items

@@ -6,6 +6,8 @@ use Rattle.lrat_checker.specs.LegalLogs.{is_named, AreFree}
 use Rattle.lrat_checker.specs.Steps.{IsFalse}
 use Rattle.sat_solver.specs.Trails.{assigned, literal_at}
 
+-- For proofs alone.
+
 -- whether a variable is marked
 abbrev pub is_needed : List Bool → ℕ → Bool
 is_needed needed v = slice_index_or needed v false

@@ -2,6 +2,8 @@
 use Rattle.std.specs.Prelude.{◌≡◌, ℕ, zero, suc, ◌+◌, ◌*◌, ◌<◌, ◌⊎◌, ◌++◌, Bool, true, false, not, List, [], length, replicate, ℤ, pos, negsuc, Option, Some, None, count_by, nat_eq, slice_index_or}
 use Rattle.clause_store.specs.Propagation.{Known, literal, IsUnit, IsFalsified}
 
+-- For proofs alone.
+
 -- the place of a literal's list
 abbrev pub place_of : ℤ → ℕ
 place_of (pos n) = 2 * n

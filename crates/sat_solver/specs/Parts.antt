@@ -8,6 +8,8 @@ use Rattle.sat_solver.specs.declared.probe.Probe.{Probe}
 use Rattle.sat_solver.specs.Trails.{IsReady}
 use Rattle.sat_solver.specs.Propagators.{IsKept}
 
+-- For proofs alone.
+
 -- the clauses that aren't left out; those past the end of the flags never are
 abbrev pub picked : List Bool → List (List ℤ) → List (List ℤ)
 picked [] clauses = clauses

@@ -10,6 +10,8 @@ use Rattle.sat_solver.specs.Occurrences.{place_of, list_of, AreHolders, AreCount
 use Rattle.sat_solver.specs.Trails.{assigned, AreStarts, IsConflict, IsUnwound}
 use Rattle.sat_solver.specs.Watches.{AreWatched, AreGuarded}
 
+-- For proofs alone.
+
 -- the lists and the counts are those of these clauses, under these values
 pub record IsIndexed (clauses : List (List ℤ)) (known : Known) (lists : List (List ℕ)) (falses trues : List ℕ) : Type 0 where
   pub holders : AreHolders clauses lists

@@ -8,6 +8,8 @@ use Rattle.sat_solver.specs.Parts.{IsProbing}
 abbrev pub hunt_of : Inside → Hunt
 hunt_of s = record { log = s.checker; limit = s.limit }
 
+-- For proofs alone.
+
 -- what holds between the calls
 pub record IsSearching (s : Inside) : Type 0 where
   pub miter : IsMiter s.checker.clauses s.checker.variables s.checker.free

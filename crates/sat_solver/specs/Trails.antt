@@ -5,6 +5,8 @@ use Rattle.clause_store.specs.Propagation.{Known, none, with_true, IsUnit, IsFal
 use Rattle.lrat_checker.specs.Tables.{known_of}
 use Rattle.sat_solver.specs.declared.trail.Trail.{Trail}
 
+-- For proofs alone.
+
 -- the assignment in which these literals are true as well
 abbrev pub with_all : Known → List ℤ → Known
 with_all known [] = known

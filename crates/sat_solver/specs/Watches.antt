@@ -6,6 +6,8 @@ use Rattle.sat_solver.specs.declared.watches.Watches.{Watches}
 use Rattle.sat_solver.specs.Trails.{assigned}
 use Rattle.sat_solver.specs.Occurrences.{list_of, numbered, IsSettled}
 
+-- For proofs alone.
+
 -- the literals at which the clause with this number is watched, if it is
 abbrev pub pair_of : Watches → ℕ → Option Pair
 pair_of w n = slice_index_or w.pairs.items n None

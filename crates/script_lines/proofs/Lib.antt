@@ -1,1 +1,2 @@
 pub mod Tokenizing
+mod Fronts

@@ -1,3 +1,4 @@
 pub mod Classes
 pub mod Tokens
 pub mod Rows
+pub mod Parting

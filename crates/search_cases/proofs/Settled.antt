@@ -1,16 +1,16 @@
 -- Why a variable is settled.
-use Rattle.std.proofs.Common.{◌≡◌, ℕ, zero, suc, ◌+◌, ◌<◌, ◌≤◌, arith, replicate, Bool, true, false, List, length, get_or, set, ℤ, Option, Some, None, refl, sym, ◌∙◌, inl, inr, subst, ap, slice_get}
-use Rattle.std.specs.Prelude.{All, Contains}
+use Rattle.std.proofs.Common.{◌≡◌, ℕ, zero, suc, ◌+◌, ◌<◌, ◌≤◌, arith, replicate, Bool, true, false, List, length, get_or, set, ℤ, Option, Some, None, refl, sym, ◌∙◌, inl, inr, subst, ap}
+use Rattle.std.specs.Prelude.{All}
 use Rattle.std.proofs.lemmas.Bool.Decides.{eqb_tells}
-use Rattle.std.proofs.lemmas.Option.{slice_get-get_or, slice_get_within}
 use Rattle.clause_store.specs.Clauses.{variable}
 use Rattle.clause_store.specs.Propagation.{Known, none, with_value, literal, is_some_false, IsUnit, IsFalsified, IsQuiet}
 use Rattle.clause_encoder.specs.Miters.{Settles}
 use Rattle.lrat_checker.specs.Tables.{known_of}
 use Rattle.lrat_checker.proofs.Within.{literal-same}
-use Rattle.sat_solver.proofs.Needs.{left-same, left_none, left_one, literal-open, false-variable}
+use Rattle.sat_solver.proofs.Needs.{left-same, left_none, left_one, false-variable}
 use Rattle.sat_solver.proofs.Pushes.{table-with, last_or}
 use Rattle.search_cases.specs.Settling.{Extends, IsSettled, HasStep}
+use Rattle.sat_solver.proofs.Choosing.{is-open}
 
 -- a false literal stays false
 false-stays : (start known : Known) (l : ℤ) → Extends start known → is_some_false (literal start l) ≡ true → is_some_false (literal known l) ≡ true
@@ -27,10 +27,10 @@ unit-step : (start known : Known) (clause : List ℤ) (l : ℤ) → Extends star
 unit-step start known clause l more open_ unit =
     let one : (k : ℕ) (d : ℤ) → k < length clause → (b : Bool) → is_some_false (literal start (get_or clause k d)) ≡ b → is_some_false (literal known (get_or clause k d)) ≡ b = λ k d within b. elim b as (λ (b : Bool). is_some_false (literal start (get_or clause k d)) ≡ b → is_some_false (literal known (get_or clause k d)) ≡ b) [
       | true ↦ λ e. false-stays start known (get_or clause k d) more e
-      | false ↦ λ e. rw (left_one start clause l k d unit.alone within e, literal-open known l open_) refl
+      | false ↦ λ e. rw (left_one start clause l k d unit.alone within e, is-open known l open_) refl
     ] in
     let same : All (λ m. is_some_false (literal known m) ≡ is_some_false (literal start m)) clause = λ k d within. one k d within (is_some_false (literal start (get_or clause k d))) refl in
-    record { alone = left-same known start clause same ∙ unit.alone; open_ = literal-open known l open_ }
+    record { alone = left-same known start clause same ∙ unit.alone; open_ = is-open known l open_ }
 
 -- a clause that is false, or unit by the variable, settles it
 pub settled-by_step : (clauses : List (List ℤ)) (start : Known) (v : ℕ) → HasStep clauses start v → IsSettled clauses start v
@@ -58,12 +58,6 @@ settled-by_cases clauses table v w low less within no_case yes_case known more l
   by None e = lesser w low less e
   by (Some false) e = no_case known (subst P (sym (table-with table w false within)) (extends-with (known_of table) known w false more e)) lesser open_ quiet
   by (Some true) e = yes_case known (subst P (sym (table-with table w true within)) (extends-with (known_of table) known w true more e)) lesser open_ quiet
-
--- the clause with a number is in the list
-pub clause-in : (clauses : List (List ℤ)) (place : ℕ) (clause : List ℤ) → slice_get clauses place ≡ Some clause → Contains clauses clause
-clause-in clauses place clause at =
-    let within : place < length clauses = slice_get_within clauses place clause at in
-    (place, within, let same : Some (get_or clauses place clause) ≡ Some clause = sym (slice_get-get_or clauses place clause within) ∙ at in cc)
 
 -- a table on which all is open
 pub known-opened : (n : ℕ) → known_of (replicate n None) ≡ none

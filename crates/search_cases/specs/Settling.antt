@@ -3,6 +3,8 @@ use Rattle.std.specs.Prelude.{◌≡◌, ◌≢◌, ℕ, ◌<◌, ◌⊎◌, Boo
 use Rattle.clause_store.specs.Clauses.{variable}
 use Rattle.clause_store.specs.Propagation.{Known, IsUnit, IsFalsified, IsQuiet}
 
+-- For proofs alone.
+
 -- the second assignment has all values of the first
 abbrev pub Extends : Known → Known → Type 0
 Extends known more = (v : ℕ) (b : Bool) → known v ≡ Some b → more v ≡ Some b

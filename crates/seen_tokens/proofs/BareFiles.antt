@@ -1,14 +1,8 @@
 -- What a file of bare tokens comes to.
-use Rattle.std.proofs.Common.{◌≡◌, ℕ, Bool, List, [], ◌∷◌, map, inl, inr, refl, ap, subst, ◌∙◌}
-use Rattle.mcy_base.specs.declared.span.Span.{Span}
-use Rattle.vlog_token.specs.declared.token.Token.{Token}
-use Rattle.vlog_expand.specs.declared.error.ParseError.{ParseError}
-use Rattle.vlog_expand.specs.Words.{is_shown, word_of}
-use Rattle.vlog_expand.specs.Definitions.{Definitions, no_macros}
+use Rattle.seen_tokens.proofs.Common.{◌≡◌, ℕ, Bool, List, [], ◌∷◌, map, inl, inr, refl, ap, subst, ◌∙◌, Span, Token, ParseError, is_shown, word_of, Definitions, no_macros, bare}
 use Rattle.vlog_expand.specs.Moves.{State, Passes, Stops, move_by}
 use Rattle.vlog_expand.specs.Uses.{Outcome, Gives, Refuses}
 use Rattle.vlog_expand.specs.Files.{Comes, ends, stops, passes, refuses, shows, IsCarriedOut, IsRefused, Turn, Ends, Shows, Leads, start, turn, turn_at}
-use Rattle.seen_tokens.specs.Bare.{bare}
 use Rattle.seen_tokens.proofs.BareTexts.{chosen}
 use Rattle.seen_tokens.proofs.BareMoves.{bare_macros, bare_move, bare_state, move_bare}
 use Rattle.seen_tokens.proofs.BareUses.{bare_outcome, behind_bare, expanded_bare}

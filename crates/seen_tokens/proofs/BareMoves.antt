@@ -1,19 +1,11 @@
 -- Where a directive leads among bare tokens.
-use Rattle.std.proofs.Common.{◌≡◌, ℕ, Bool, true, false, ◌&&◌, not, if◌then◌else◌, List, [], ◌∷◌, map, Option, Some, None, is_some, bytes_eq, refl, sym, ap, ◌∙◌, cond}
-use Rattle.std.proofs.Math.Path.{fun_ext}
-use Rattle.mcy_base.specs.declared.span.Span.{Span}
-use Rattle.vlog_syntax.specs.declared.feature.Feature.TheVariants.{MacroForm}
-use Rattle.vlog_token.specs.declared.token.Token.{Token}
-use Rattle.vlog_expand.specs.declared.error.ParseError.{ParseError}
+use Rattle.seen_tokens.proofs.Common.{◌≡◌, ℕ, Bool, true, false, ◌&&◌, not, if◌then◌else◌, List, [], ◌∷◌, map, Option, Some, None, is_some, bytes_eq, refl, sym, ap, ◌∙◌, cond, fun_ext, Span}
+use Rattle.seen_tokens.proofs.Common.{MacroForm, Token, ParseError, Word, Define, Undef, Ifdef, Ifndef, Else, Elsif, Endif, Dropped, Include, Refused, is_macro_name, is_name, word_of, behind_line}
+use Rattle.seen_tokens.proofs.Common.{is_on, rest_of_line, Definitions, with_text, bare}
 use Rattle.vlog_expand.specs.declared.error.ParseError.TheVariants.{Unexpected, Unsupported, OpenCondition}
-use Rattle.vlog_expand.specs.declared.word.Word.{Word}
-use Rattle.vlog_expand.specs.declared.word.Word.TheVariants.{Define, Undef, Ifdef, Ifndef, Else, Elsif, Endif, Dropped, Include, Refused}
-use Rattle.vlog_expand.specs.Words.{is_macro_name, is_name, word_of}
-use Rattle.vlog_expand.specs.Lines.{behind_line, is_on, rest_of_line}
 use Rattle.vlog_expand.specs.Conditions.{after_part, is_closed}
-use Rattle.vlog_expand.specs.Definitions.{Definitions, with_text}
-use Rattle.vlog_expand.specs.Moves.{State, Move, Passes, Stops, behind_else, behind_else_by, chosen_part, condition_move, define_move, definition, else_move, endif_move, fault_in, has_parameters, holds, innermost, is_first, move_by, other_part, other_part_by, undef_move, unless_fault, with_name}
-use Rattle.seen_tokens.specs.Bare.{bare}
+use Rattle.vlog_expand.specs.Moves.{State, Move, Passes, Stops, behind_else, behind_else_by, chosen_part, condition_move, define_move, definition, else_move, endif_move, fault_in, has_parameters}
+use Rattle.vlog_expand.specs.Moves.{holds, innermost, is_first, move_by, other_part, other_part_by, undef_move, unless_fault, with_name}
 use Rattle.seen_tokens.proofs.BareTexts.{chosen, rest_of_line_bare, behind_line_bare, fault_in_bare, has_parameters_bare, is_closed_bare, after_part_bare}
 
 abbrev pub bare_text : Option (List Token) → Option (List Token)

@@ -1,18 +1,13 @@
 -- What a production means, where parts of it are tokens: only what is seen of these.
-use Rattle.std.proofs.Common.{◌≡◌, List, [], ◌∷◌, ◌++◌, refl, ap}
-use Rattle.mcy_base.specs.declared.span.Span.{Span}
-use Rattle.vlog_token.specs.declared.token.Token.{Token}
+use Rattle.seen_tokens.proofs.Common.{◌≡◌, List, [], ◌∷◌, ◌++◌, refl, ap, Span, Token, Rule, Value, first, rest, expr_of, span_of, made, made_by, bare}
 use Rattle.vlog_syntax.specs.declared.expr.Expr.{Expr}
 use Rattle.vlog_syntax.specs.declared.operator.BinaryOperator.{BinaryOperator}
 use Rattle.vlog_syntax.specs.declared.operator.BinaryOperator.TheVariants as b
-use Rattle.vlog_grammar.specs.declared.rule.Rule.{Rule}
 use Rattle.vlog_grammar.specs.declared.rule.Rule.TheVariants as r
 use Rattle.vlog_grammar.specs.declared.table.Symbol.{Symbol}
 use Rattle.vlog_grammar.specs.Grammar.{parts_of}
-use Rattle.vlog_parts.specs.declared.value.Value.{Value}
 use Rattle.vlog_parts.specs.declared.value.Value.TheVariants as v
 use Rattle.vlog_parts.specs.Leaves.{identifier, number, string}
-use Rattle.vlog_parts.specs.Values.{first, rest, expr_of, span_of}
 use Rattle.vlog_declarations.specs.Modules.{made_module}
 use Rattle.vlog_declarations.specs.Declarations.{made_declaration}
 use Rattle.vlog_items.specs.Items.{made_item}
@@ -20,8 +15,6 @@ use Rattle.vlog_statements.specs.Events.{made_event}
 use Rattle.vlog_statements.specs.Statements.{made_statement}
 use Rattle.vlog_trees.specs.Passed.{made_passed}
 use Rattle.vlog_trees.specs.Expressions.{made_expression, extended, link, linked, operated}
-use Rattle.vlog_trees.specs.Meaning.{made, made_by}
-use Rattle.seen_tokens.specs.Bare.{bare}
 use Rattle.seen_tokens.proofs.BareValues.{IsBlind, bare_value}
 
 -- what stands behind an operand

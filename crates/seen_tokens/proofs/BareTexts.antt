@@ -1,13 +1,8 @@
 -- Lines and conditions of bare tokens.
-use Rattle.std.proofs.Common.{◌≡◌, ℕ, zero, suc, Bool, true, false, if◌then◌else◌, List, [], ◌∷◌, map, Option, Some, None, refl, ap}
-use Rattle.vlog_token.specs.declared.token.Token.{Token}
-use Rattle.vlog_expand.specs.declared.word.Word.{Word}
-use Rattle.vlog_expand.specs.declared.word.Word.TheVariants.{Ifdef, Ifndef, Else, Elsif, Endif}
-use Rattle.vlog_expand.specs.Words.{word_of}
-use Rattle.vlog_expand.specs.Lines.{behind_line, is_on, rest_of_line}
+use Rattle.seen_tokens.proofs.Common.{◌≡◌, ℕ, zero, suc, Bool, true, false, if◌then◌else◌, List, [], ◌∷◌, map, Option, Some, None, refl, ap, Token, Word, Ifdef, Ifndef, Else, Elsif, Endif, word_of}
+use Rattle.seen_tokens.proofs.Common.{behind_line, is_on, rest_of_line, bare}
 use Rattle.vlog_expand.specs.Conditions.{after_part, after_part_from, closed_by, is_closed, is_closed_from, line_after, part_by, word_at}
 use Rattle.vlog_expand.specs.Moves.{fault_in, first_of, has_parameters, text_fault}
-use Rattle.seen_tokens.specs.Bare.{bare}
 
 -- a choice between two values goes through a function
 pub chosen : {A B : Type 0} (f : A → B) (b : Bool) (x y : A) (x' y' : B) → x' ≡ f x → y' ≡ f y → (if b then x' else y') ≡ f (if b then x else y)

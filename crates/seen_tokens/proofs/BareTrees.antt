@@ -1,28 +1,20 @@
 -- What trees over bare tokens mean.
-use Rattle.std.proofs.Common.{◌≡◌, ℕ, ◌+◌, List, [], ◌∷◌, map, Option, Some, None, option_map, slice_get, inl, inr, refl, sym, ap, subst, ◌∙◌}
-use Rattle.std.proofs.Math.Path.{ap₂}
+use Rattle.seen_tokens.proofs.Common.{◌≡◌, ℕ, ◌+◌, List, [], ◌∷◌, map, Option, Some, None, option_map, slice_get, inl, inr, refl, sym, ap, subst, ◌∙◌, ap₂, Span, Token, ParseError, Rule, Value, first}
+use Rattle.seen_tokens.proofs.Common.{modules_of, leaf, made, means, modules, bare}
 use Rattle.std.proofs.lemmas.Option.{slice_get-map}
-use Rattle.mcy_base.specs.declared.span.Span.{Span}
-use Rattle.vlog_token.specs.declared.token.Token.{Token}
 use Rattle.vlog_syntax.specs.declared.module.Module.{Module}
-use Rattle.vlog_expand.specs.declared.error.ParseError.{ParseError}
 use Rattle.vlog_expand.specs.declared.error.ParseError.TheVariants as e
-use Rattle.vlog_grammar.specs.declared.rule.Rule.{Rule}
 use Rattle.vlog_grammar.specs.declared.step.Token.{Token as Classed}
 use Rattle.vlog_grammar.specs.declared.stop.Stop.{Stop}
 use Rattle.vlog_grammar.specs.declared.stop.Stop.TheVariants as stop
 use Rattle.vlog_grammar.specs.Trees.{Trees, Nil, Leaf, Node}
 use Rattle.vlog_grammar.specs.Reading.{AreTreesOf}
-use Rattle.vlog_parts.specs.declared.value.Value.{Value}
 use Rattle.vlog_parts.specs.declared.value.Value.TheVariants as v
-use Rattle.vlog_parts.specs.Values.{first, modules_of}
-use Rattle.vlog_trees.specs.Meaning.{leaf, made, means, modules}
 use Rattle.vlog_parse.specs.declared.classes.Context.{Context}
 use Rattle.vlog_parse.specs.declared.classes.Context.TheVariants as x
 use Rattle.vlog_parse.specs.Classes.{classed, classes, classes_from, token_class}
 use Rattle.vlog_parse.specs.Nesting.{IsTooDeepAt}
 use Rattle.vlog_parse.specs.Parsing.{AreParsed, IsFault, IsFirstStop, place, span_or, stopped}
-use Rattle.seen_tokens.specs.Bare.{bare}
 use Rattle.seen_tokens.proofs.BareValues.{all_bare, bare_value}
 use Rattle.seen_tokens.proofs.BareRules.{made_blind}
 
@@ -75,12 +67,12 @@ modules_bare : (ts : List Token) (f : Trees) → modules (map bare ts) f ≡ mod
 modules_bare ts f = modules_in (means (map bare ts) f) (means ts f) (means_bare ts f)
 
 pub parsed_bare : (tokens : List Token) (ms : List Module) → AreParsed tokens ms → AreParsed (map bare tokens) ms
-parsed_bare tokens ms parsed = record {
-  text = parsed.text;
-  trees = subst (AreTreesOf parsed.text) (sym (classes_bare tokens)) parsed.trees;
-  shallow = parsed.shallow;
-  mean = parsed.mean ∙ sym (modules_bare tokens parsed.text);
-}
+parsed_bare tokens ms parsed =
+    let text = parsed.are.text in
+    record {
+      are = record { text = text; trees = subst (AreTreesOf text) (sym (classes_bare tokens)) parsed.are.trees; mean = parsed.are.mean ∙ sym (modules_bare tokens text) };
+      shallow = parsed.shallow;
+    }
 
 -- faults
 

@@ -1,13 +1,8 @@
 -- What bare tokens come to, one by one, where uses of macros are replaced.
-use Rattle.std.proofs.Common.{◌≡◌, ℕ, zero, suc, List, [], ◌∷◌, map, Option, Some, None, refl, sym, ap, ◌∙◌}
+use Rattle.seen_tokens.proofs.Common.{◌≡◌, ℕ, zero, suc, List, [], ◌∷◌, map, Option, Some, None, refl, sym, ap, ◌∙◌, MacroDepth, Token, is_use, name_of, word_of, Definitions, bare}
 use Rattle.std.proofs.lemmas.List.{map-append}
-use Rattle.vlog_syntax.specs.declared.feature.Feature.TheVariants.{MacroDepth}
-use Rattle.vlog_token.specs.declared.token.Token.{Token}
 use Rattle.vlog_expand.specs.declared.error.ParseError.TheVariants.{Unsupported}
-use Rattle.vlog_expand.specs.Words.{is_use, name_of, word_of}
-use Rattle.vlog_expand.specs.Definitions.{Definitions}
 use Rattle.vlog_expand.specs.Uses.{Outcome, Gives, Refuses, behind, expanded, followed, in_order, token_given, use_replaced}
-use Rattle.seen_tokens.specs.Bare.{bare}
 use Rattle.seen_tokens.proofs.BareTexts.{chosen}
 use Rattle.seen_tokens.proofs.BareMoves.{bare_macros, bare_text}
 

@@ -1,9 +1,6 @@
 -- Values whose tokens are bare, and functions that see of a token only what is seen of it.
-use Rattle.std.proofs.Common.{◌≡◌, List, [], ◌∷◌, ◌++◌, map, refl, sym, ap, ◌∙◌, append_assoc}
-use Rattle.vlog_token.specs.declared.token.Token.{Token}
-use Rattle.vlog_parts.specs.declared.value.Value.{Value}
+use Rattle.seen_tokens.proofs.Common.{◌≡◌, List, [], ◌∷◌, ◌++◌, map, refl, sym, ap, ◌∙◌, append_assoc, Token, Value, bare}
 use Rattle.vlog_parts.specs.declared.value.Value.TheVariants as v
-use Rattle.seen_tokens.specs.Bare.{bare}
 
 -- a part whose token is bare
 abbrev pub bare_value : Value → Value

@@ -1,3 +1,4 @@
+mod Common
 pub mod BareTexts
 pub mod BareMoves
 pub mod BareUses

@@ -1,11 +1,9 @@
 -- The bits of numbers that are joined, and of those that stand for a row of bits.
-use Rattle.std.proofs.Common.{◌≡◌, zero, suc, ℕ, ◌+◌, ◌-◌, ◌^◌, ◌%◌, ◌<◌, min, max, Bool, true, false, not, ◌&&◌, ◌||◌, nat_eq, nat_le, nat_lt, refl, ap, ◌∙◌, arith}
+use Rattle.signal_masks.proofs.Common.{◌≡◌, zero, suc, ℕ, ◌+◌, ◌-◌, ◌^◌, ◌%◌, ◌<◌, min, max, Bool, true, false, not, ◌&&◌, ◌||◌, nat_eq, nat_le, nat_lt, refl, ap, ◌∙◌, arith, nat_tests, has_bit}
 use Rattle.std.specs.Int.{bit_at}
 use Rattle.std.specs.Int.Bits.{bit_and, bit_or, bit_xor}
-use Rattle.std.proofs.lemmas.Bool.Decides.{nat_tests}
 use Rattle.std.proofs.lemmas.Nat.Bits.{bit_at_and, bit_at_or, bit_at_xor, bit_at-lt, bit_at_mask_inside, bit_at_mask_below, bit_at_mask_above, bit_at-zero}
 use Rattle.std.proofs.lemmas.Nat.{pow_pos}
-use Rattle.signal_masks.specs.Masks.{has_bit}
 
 or_test : (x y : ℕ) → x < 2 → y < 2 → nat_eq (max x y) 1 ≡ (nat_eq x 1 || nat_eq y 1)
 or_test zero zero h k = refl

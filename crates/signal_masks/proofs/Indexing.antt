@@ -1,17 +1,9 @@
 -- What the indices of left sides read.
-use Rattle.std.proofs.Common.{◌≡◌, zero, suc, ℕ, ◌<◌, Bool, true, false, ◌||◌, List, [], ◌∷◌, ◌++◌, map, refl, sym, ap, ◌∙◌, arith, length, get_or, take}
-use Rattle.mcy_base.specs.declared.span.Span.{Span}
-use Rattle.vlog_syntax.specs.declared.identifier.Identifier.{Identifier}
-use Rattle.vlog_syntax.specs.declared.expr.Expr.{Expr}
-use Rattle.vlog_syntax.specs.declared.left_side.LeftSide.{LeftSide}
+use Rattle.signal_masks.proofs.Common.{◌≡◌, zero, suc, ℕ, ◌<◌, Bool, true, false, ◌||◌, List, [], ◌∷◌, ◌++◌, map, refl, sym, ap, ◌∙◌, arith, length, get_or, take, Span, Identifier, Expr, LeftSide}
+use Rattle.signal_masks.proofs.Common.{Names, sense, Whole, Bit, Range, Indexed, Part, parts_of, concatenated, index_reads, indices_read}
 use Rattle.vlog_syntax.specs.declared.left_side.LeftSide.TheVariants as lv
-use Rattle.vlog_meaning.specs.Scopes.{Names}
-use Rattle.vlog_meaning.specs.Senses.{sense}
-use Rattle.vlog_effects.specs.LeftSides.{Whole, Bit, Range, Indexed, Part, parts_of, concatenated}
-use Rattle.vlog_effects.specs.Latches.{index_reads}
 use Rattle.vlog_effects.proofs.Folds.{parts-name, parts-bit, parts-range, parts-indexed, parts-concatenation}
-use Rattle.signal_masks.specs.Parts.{indices_read}
-use Rattle.signal_masks.proofs.Sets.{or_end}
+use Rattle.signal_masks.proofs.Placing.{or_end}
 
 module _ (names : Names) (left : LeftSide) (n i : ℕ) (old new : Bool) where
   one_part : (p : Part) (b : Bool) → parts_of left ≡ p ∷ [] → index_reads names p.select n i ≡ b → new ≡ (old || b) → new ≡ (old || indices_read names (parts_of left) n i)
@@ -32,11 +24,11 @@ module _ (names : Names) (left : LeftSide) (n i : ℕ) (old new : Bool) where
   pub index_joined : (at : Span) (parts : List LeftSide) → left ≡ lv.Concatenation at parts → new ≡ (old || indices_read names (concatenated (map parts_of parts)) n i) → new ≡ (old || indices_read names (parts_of left) n i)
   index_joined at parts is e = e ∙ ap (λ (ps : List Part). old || indices_read names ps n i) (sym (ap parts_of is ∙ parts-concatenation at parts))
 
-after : (a b c : Bool) → (a || (b || c)) ≡ ((a || b) || c)
+pub after : (a b c : Bool) → (a || (b || c)) ≡ ((a || b) || c)
 after true b c = refl
 after false b c = refl
 
-read_both : (names : Names) (xs ys : List Part) (n i : ℕ) → indices_read names (xs ++ ys) n i ≡ (indices_read names xs n i || indices_read names ys n i)
+pub read_both : (names : Names) (xs ys : List Part) (n i : ℕ) → indices_read names (xs ++ ys) n i ≡ (indices_read names xs n i || indices_read names ys n i)
 read_both names [] ys n i = refl
 read_both names (x ∷ xs) ys n i = ap (λ (b : Bool). index_reads names x.select n i || b) (read_both names xs ys n i) ∙ after (index_reads names x.select n i) (indices_read names xs n i) (indices_read names ys n i)
 

@@ -1,6 +1,7 @@
-mod Bits
-mod Indexing
-mod Placing
+mod Common
+pub mod Bits
+pub mod Indexing
+pub mod Placing
 mod Reading
 mod Selects
-mod Sets
+pub mod Sets

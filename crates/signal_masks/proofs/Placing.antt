@@ -1,23 +1,12 @@
 -- The bits that a part of a left side names, as those from a place on.
-use Rattle.std.proofs.Common.{◌≡◌, zero, suc, ℕ, ◌+◌, ◌-◌, ◌<◌, ◌≤◌, Bool, true, false, ◌&&◌, ◌||◌, nat_eq, nat_le, nat_lt, ℤ, pos, negsuc, ◌+ℤ◌, ◌-ℤ◌, List, [], ◌∷◌, ◌++◌, map, refl, sym, ap, ◌∙◌, subst, arith, length, get_or, take}
+use Rattle.signal_masks.proofs.Common.{◌≡◌, zero, suc, ℕ, ◌+◌, ◌-◌, ◌<◌, ◌≤◌, Bool, true, false, ◌&&◌, ◌||◌, nat_eq, nat_le, nat_lt, ℤ, pos, negsuc, ◌+ℤ◌, ◌-ℤ◌, List, [], ◌∷◌, ◌++◌, map, refl, sym}
+use Rattle.signal_masks.proofs.Common.{ap, ◌∙◌, subst, arith, length, get_or, take, Option, Some, None, if◌then◌else◌, nat_tests, Span, Identifier, Expr, LeftSide, Decl, natural, IsSized, Names}
+use Rattle.signal_masks.proofs.Common.{decl_low, decl_shape, sense, constant_integer, part_width, name_bits, part_bits, is_among, is_empty, IsWhole, Select, Whole, Bit, Range, Indexed, Part, Vector}
+use Rattle.signal_masks.proofs.Common.{vector_of, select_base, select_width, bit_at, bits_from, places, parts_of, part_vector, concatenated, stands_in, is_fixed, part_covers, parts_cover, AreFit}
 use Rattle.std.proofs.lemmas.Int.{ints}
-use Rattle.std.specs.Prelude.{Option, Some, None, if◌then◌else◌}
-use Rattle.std.proofs.lemmas.Bool.Decides.{nat_tests}
-use Rattle.mcy_base.specs.declared.span.Span.{Span}
-use Rattle.vlog_syntax.specs.declared.identifier.Identifier.{Identifier}
-use Rattle.vlog_syntax.specs.declared.expr.Expr.{Expr}
-use Rattle.vlog_syntax.specs.declared.left_side.LeftSide.{LeftSide}
 use Rattle.vlog_syntax.specs.declared.left_side.LeftSide.TheVariants as lv
-use Rattle.vlog_meaning.specs.declared.scope.Decl.{Decl}
 use Rattle.vlog_meaning.specs.declared.scope.Decl.TheVariants.{Signal, Constant}
-use Rattle.vlog_meaning.specs.Integers.{natural}
-use Rattle.vlog_meaning.specs.Operators.{IsSized}
-use Rattle.vlog_meaning.specs.Scopes.{Names, decl_low, decl_shape}
-use Rattle.vlog_meaning.specs.Senses.{sense, constant_integer, part_width, name_bits, part_bits, is_among, is_empty, IsWhole}
-use Rattle.vlog_effects.specs.LeftSides.{Select, Whole, Bit, Range, Indexed, Part, Vector, vector_of, select_base, select_width, bit_at, bits_from, places, parts_of, part_vector, concatenated}
-use Rattle.vlog_effects.specs.Latches.{stands_in, is_fixed, part_covers, parts_cover}
 use Rattle.vlog_effects.proofs.Folds.{parts-name, parts-bit, parts-range, parts-indexed, parts-concatenation}
-use Rattle.signal_masks.specs.Parts.{AreFit}
 
 -- an integer is this number
 abbrev is_at : ℤ → ℕ → Bool
@@ -61,7 +50,7 @@ one_stands v (negsuc n) rest i =
       none true = refl
       none false = refl
 
-parted : (w a b : Bool) → ((w && a) || (w && b)) ≡ (w && (a || b))
+pub parted : (w a b : Bool) → ((w && a) || (w && b)) ≡ (w && (a || b))
 parted true a b = refl
 parted false a b = refl
 
@@ -89,7 +78,7 @@ off : (a : Bool) → (a && false) ≡ false
 off true = refl
 off false = refl
 
-or_end : (b : Bool) → (b || false) ≡ b
+pub or_end : (b : Bool) → (b || false) ≡ b
 or_end true = refl
 or_end false = refl
 
@@ -152,7 +141,7 @@ module _ (names : Names) (left : LeftSide) (n i : ℕ) (old new : Bool) where
 
 -- Several left sides.
 
-covers_both : (names : Names) (xs ys : List Part) (n i : ℕ) → parts_cover names (xs ++ ys) n i ≡ (parts_cover names xs n i || parts_cover names ys n i)
+pub covers_both : (names : Names) (xs ys : List Part) (n i : ℕ) → parts_cover names (xs ++ ys) n i ≡ (parts_cover names xs n i || parts_cover names ys n i)
 covers_both names [] ys n i = refl
 covers_both names (x ∷ xs) ys n i = ap (λ (b : Bool). part_covers names x (part_vector names x) n i || b) (covers_both names xs ys n i) ∙ after (part_covers names x (part_vector names x) n i) (parts_cover names xs n i) (parts_cover names ys n i) where
   after : (a b c : Bool) → (a || (b || c)) ≡ ((a || b) || c)

@@ -1,26 +1,12 @@
 -- What an expression of each kind reads, from what its operands read.
-use Rattle.std.proofs.Common.{◌≡◌, zero, suc, ℕ, ◌<◌, Bool, true, false, ◌||◌, ℤ, pos, ◌-ℤ◌, List, [], ◌∷◌, refl, sym, ap, ◌∙◌, arith, length, get_or, take}
-use Rattle.std.specs.Prelude.{Option}
-use Rattle.mcy_base.specs.declared.span.Span.{Span}
-use Rattle.vlog_syntax.specs.declared.identifier.Identifier.{Identifier}
+use Rattle.signal_masks.proofs.Common.{◌≡◌, zero, suc, ℕ, ◌<◌, Bool, true, false, ◌||◌, ℤ, pos, ◌-ℤ◌, List, [], ◌∷◌, sym, ap, ◌∙◌, arith, length, get_or, take, Option, Span, Identifier, Expr, Decl}
+use Rattle.signal_masks.proofs.Common.{Names, decl_low, natural, Sense, sense, senses, constant_integer, part_width, name_bits, part_bits, select_bits, all_reads, is_empty, or-again}
 use Rattle.vlog_syntax.specs.declared.identifier.Number.{Number}
 use Rattle.vlog_syntax.specs.declared.operator.UnaryOperator.{UnaryOperator}
 use Rattle.vlog_syntax.specs.declared.operator.BinaryOperator.{BinaryOperator}
-use Rattle.vlog_syntax.specs.declared.expr.Expr.{Expr}
 use Rattle.vlog_syntax.specs.declared.expr.Expr.TheVariants as v
-use Rattle.vlog_meaning.specs.declared.scope.Decl.{Decl}
-use Rattle.vlog_meaning.specs.Scopes.{Names, decl_low}
-use Rattle.vlog_meaning.specs.Integers.{natural}
-use Rattle.vlog_meaning.specs.Senses.{Sense, sense, senses, constant_integer, part_width, name_bits, part_bits, select_bits, all_reads, is_empty}
 use Rattle.vlog_meaning.proofs.Steps as step
-
-or_end : (b : Bool) → (b || false) ≡ b
-or_end true = refl
-or_end false = refl
-
-or_both : (a b c : Bool) → ((a || b) || c) ≡ (a || (b || c))
-or_both true b c = refl
-or_both false b c = refl
+use Rattle.signal_masks.proofs.Placing.{or_end}
 
 module _ (names : Names) (x : Expr) (n i : ℕ) where
   abbrev pub reads_here : Expr → Bool
@@ -55,11 +41,11 @@ module _ (names : Names) (x : Expr) (n i : ℕ) where
   reads_operand at op operand old new is e = e ∙ ap (λ (b : Bool). old || b) (sym (of_kind _ _ is (step.sense_unary names at op operand)))
 
   pub reads_pair : (at : Span) (op : BinaryOperator) (left right : Expr) (old mid new : Bool) → x ≡ v.Binary at op left right → mid ≡ (old || reads_here left) → new ≡ (mid || reads_here right) → new ≡ (old || reads_here x)
-  reads_pair at op left right old mid new is e f = f ∙ ap (λ (b : Bool). b || reads_here right) e ∙ or_both old (reads_here left) (reads_here right) ∙ ap (λ (b : Bool). old || b) (sym (of_kind _ _ is (step.sense_binary names at op left right)))
+  reads_pair at op left right old mid new is e f = f ∙ ap (λ (b : Bool). b || reads_here right) e ∙ or-again old (reads_here left) (reads_here right) ∙ ap (λ (b : Bool). old || b) (sym (of_kind _ _ is (step.sense_binary names at op left right)))
 
   pub reads_choice : (at : Span) (condition first second : Expr) (old mid next new : Bool) → x ≡ v.Conditional at condition first second → mid ≡ (old || reads_here condition) → next ≡ (mid || reads_here first) → new ≡ (next || reads_here second) → new ≡ (old || reads_here x)
   reads_choice at condition first second old mid next new is e f g =
-      g ∙ ap (λ (b : Bool). b || reads_here second) (f ∙ ap (λ (b : Bool). b || reads_here first) e) ∙ or_both (old || reads_here condition) (reads_here first) (reads_here second) ∙ or_both old (reads_here condition) (reads_here first || reads_here second) ∙ ap (λ (b : Bool). old || b) (sym (of_kind _ _ is (step.sense_conditional names at condition first second)))
+      g ∙ ap (λ (b : Bool). b || reads_here second) (f ∙ ap (λ (b : Bool). b || reads_here first) e) ∙ or-again (old || reads_here condition) (reads_here first) (reads_here second) ∙ or-again old (reads_here condition) (reads_here first || reads_here second) ∙ ap (λ (b : Bool). old || b) (sym (of_kind _ _ is (step.sense_conditional names at condition first second)))
 
   pub reads_joined : (at : Span) (parts : List Expr) (old new : Bool) → x ≡ v.Concatenation at parts → new ≡ (old || all_reads (senses names parts) n i) → new ≡ (old || reads_here x)
   reads_joined at parts old new is e = e ∙ ap (λ (b : Bool). old || b) (sym (of_kind _ _ is (step.sense_concatenation names at parts)))
@@ -74,14 +60,14 @@ module _ (names : Names) (x : Expr) (n i : ℕ) where
 pub reads_take : (names : Names) (es : List Expr) (k : ℕ) (x : Expr) (n i : ℕ) → x ≡ get_or es k x → k < length es → all_reads (senses names (take (suc k) es)) n i ≡ (all_reads (senses names (take k es)) n i || (sense names x).reads n i)
 reads_take names [] k x n i is h = absurd (omega arith)
 reads_take names (y ∷ ys) zero x n i is h = ap (λ (z : Expr). (sense names z).reads n i || false) (sym is) ∙ or_end ((sense names x).reads n i)
-reads_take names (y ∷ ys) (suc k) x n i is h = ap (λ (b : Bool). (sense names y).reads n i || b) (reads_take names ys k x n i is (omega arith)) ∙ sym (or_both ((sense names y).reads n i) (all_reads (senses names (take k ys)) n i) ((sense names x).reads n i))
+reads_take names (y ∷ ys) (suc k) x n i is h = ap (λ (b : Bool). (sense names y).reads n i || b) (reads_take names ys k x n i is (omega arith)) ∙ sym (or-again ((sense names y).reads n i) (all_reads (senses names (take k ys)) n i) ((sense names x).reads n i))
 
 pub more_reads : (names : Names) (es : List Expr) (k : ℕ) (x : Expr) (n i : ℕ) (old before after : Bool) → x ≡ get_or es k x → k < length es → before ≡ (old || all_reads (senses names (take k es)) n i) → after ≡ (before || (sense names x).reads n i) → after ≡ (old || all_reads (senses names (take (suc k) es)) n i)
-more_reads names es k x n i old before after is h e f = f ∙ ap (λ (b : Bool). b || (sense names x).reads n i) e ∙ or_both old (all_reads (senses names (take k es)) n i) ((sense names x).reads n i) ∙ ap (λ (b : Bool). old || b) (sym (reads_take names es k x n i is h))
+more_reads names es k x n i old before after is h e f = f ∙ ap (λ (b : Bool). b || (sense names x).reads n i) e ∙ or-again old (all_reads (senses names (take k es)) n i) ((sense names x).reads n i) ∙ ap (λ (b : Bool). old || b) (sym (reads_take names es k x n i is h))
 
 -- a select at a constant place, and at another
 pub select_constant : (d : Option Decl) (x : Sense) (size n i : ℕ) (place : ℤ) (old new : Bool) → is_empty x.signals ≡ true → place ≡ constant_integer x → new ≡ (old || part_bits d (place -ℤ pos (decl_low d)) size n i) → new ≡ (old || select_bits d x size n i)
 select_constant d x size n i place old new is at_place e = rw is (e ∙ ap (λ (p : ℤ). old || part_bits d (p -ℤ pos (decl_low d)) size n i) at_place)
 
 pub select_other : (d : Option Decl) (x : Sense) (size n i : ℕ) (old mid new : Bool) → is_empty x.signals ≡ false → mid ≡ (old || name_bits d n i) → new ≡ (mid || x.reads n i) → new ≡ (old || select_bits d x size n i)
-select_other d x size n i old mid new is e f = rw is (f ∙ ap (λ (b : Bool). b || x.reads n i) e ∙ or_both old (name_bits d n i) (x.reads n i))
+select_other d x size n i old mid new is e f = rw is (f ∙ ap (λ (b : Bool). b || x.reads n i) e ∙ or-again old (name_bits d n i) (x.reads n i))

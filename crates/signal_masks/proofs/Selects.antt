@@ -1,24 +1,14 @@
 -- The names of selects are signals of 1 to 128 bits, and what reads no signal is a constant.
-use Rattle.std.proofs.Common.{◌≡◌, Bool, false, List, [], ◌∷◌, sym, ap, ◌∙◌}
-use Rattle.std.specs.Prelude.{Option, Some, None}
+use Rattle.signal_masks.proofs.Common.{◌≡◌, Bool, false, List, [], ◌∷◌, sym, ap, ◌∙◌, Option, Some, None, Span, Identifier, Expr, IsSized, Names, decl_shape, sense, is_empty, IsWhole}
 use Rattle.std.specs.Option.{is_none}
-use Rattle.mcy_base.specs.declared.span.Span.{Span}
-use Rattle.vlog_syntax.specs.declared.identifier.Identifier.{Identifier}
-use Rattle.vlog_syntax.specs.declared.expr.Expr.{Expr}
 use Rattle.vlog_syntax.specs.declared.expr.Expr.TheVariants as v
 use Rattle.vlog_meaning.specs.declared.fault.Fault.{Fault}
 use Rattle.vlog_meaning.specs.Answers.{least}
-use Rattle.vlog_meaning.specs.Operators.{IsSized}
-use Rattle.vlog_meaning.specs.Scopes.{Names, decl_shape}
-use Rattle.vlog_meaning.specs.Senses.{Sense, sense, is_empty, IsWhole}
 use Rattle.vlog_meaning.proofs.Blanks.{left_nil}
 use Rattle.vlog_meaning.proofs.Firsts.{least_none}
 use Rattle.vlog_meaning.proofs.Refusals.{least_empty}
-use Rattle.vlog_meaning.proofs.Whole.{name_sized}
+use Rattle.vlog_meaning.proofs.Whole.{name_sized, says}
 use Rattle.vlog_meaning.proofs.Steps as step
-
-says : (names : Names) (x : Expr) (s : Sense) → sense names x ≡ s → IsWhole names x → s.faults ≡ []
-says names x s is whole = ap (λ (y : Sense). y.faults) (sym is) ∙ whole
 
 pub bit_sized : (names : Names) (x : Expr) (n : Identifier) (at : Span) (index : Expr) → x ≡ v.BitSelect n at index → IsWhole names x → IsSized (decl_shape (names n.name))
 bit_sized names x n at index is whole = name_sized n.span (names n.name) (left_nil _ _ (says names x _ (ap (sense names) is ∙ step.sense_bit_select names n at index) whole))

@@ -1,13 +1,7 @@
 -- Lists of masks, one more at a time.
-use Rattle.std.proofs.Common.{◌≡◌, zero, suc, ℕ, ◌<◌, Bool, true, false, not, ◌&&◌, ◌||◌, nat_eq, List, [], ◌∷◌, ◌++◌, refl, sym, ap, ◌∙◌, arith, length, get_or, take}
-use Rattle.std.specs.Prelude.{slice_set}
-use Rattle.std.proofs.lemmas.Bool.Decides.{nat_tests}
-use Rattle.signal_masks.specs.declared.mask.Mask.{Mask}
-use Rattle.signal_masks.specs.Masks.{has_bit, bits_in}
-
-pub or_end : (b : Bool) → (b || false) ≡ b
-or_end true = refl
-or_end false = refl
+use Rattle.signal_masks.proofs.Common.{◌≡◌, zero, suc, ℕ, ◌<◌, Bool, true, false, not, ◌&&◌, ◌||◌, nat_eq, List, [], ◌∷◌, ◌++◌, refl, sym, ap, ◌∙◌, arith, length, get_or, take, slice_set, nat_tests}
+use Rattle.signal_masks.proofs.Common.{Mask, has_bit, bits_in, or-again}
+use Rattle.signal_masks.proofs.Placing.{or_end}
 
 passed : (a b c : Bool) → (a || (b || c)) ≡ ((a || b) || c)
 passed true b c = refl
@@ -47,10 +41,6 @@ bits_set (x ∷ more) (suc k) old new bits n i is h same more_bits = ap (λ (b :
 
 -- What is added for each mask of a list.
 
-onto : (a b c : Bool) → ((a || b) || c) ≡ (a || (b || c))
-onto true b c = refl
-onto false b c = refl
-
 -- the bits of a mask that are kept by a test
 kept_more : (ms : List Mask) (k : ℕ) (m : Mask) (n i : ℕ) (test : Bool) → m ≡ get_or ms k m → k < length ms → ((bits_in (take k ms) n i && test) || ((nat_eq n m.number && has_bit m.bits i) && test)) ≡ (bits_in (take (suc k) ms) n i && test)
 kept_more ms k m n i test is h = both (bits_in (take k ms) n i) (nat_eq n m.number && has_bit m.bits i) test ∙ ap (λ (b : Bool). b && test) (sym (bits_take ms k m n i is h)) where
@@ -61,7 +51,7 @@ kept_more ms k m n i test is h = both (bits_in (take k ms) n i) (nat_eq n m.numb
   both false b t = refl
 
 pub all_more : (ms : List Mask) (k : ℕ) (m : Mask) (n i : ℕ) (old before after : Bool) → m ≡ get_or ms k m → k < length ms → before ≡ (old || bits_in (take k ms) n i) → after ≡ (before || (nat_eq n m.number && has_bit m.bits i)) → after ≡ (old || bits_in (take (suc k) ms) n i)
-all_more ms k m n i old before after is h e f = f ∙ ap (λ (b : Bool). b || (nat_eq n m.number && has_bit m.bits i)) e ∙ onto old (bits_in (take k ms) n i) (nat_eq n m.number && has_bit m.bits i) ∙ ap (λ (b : Bool). old || b) (sym (bits_take ms k m n i is h))
+all_more ms k m n i old before after is h e f = f ∙ ap (λ (b : Bool). b || (nat_eq n m.number && has_bit m.bits i)) e ∙ or-again old (bits_in (take k ms) n i) (nat_eq n m.number && has_bit m.bits i) ∙ ap (λ (b : Bool). old || b) (sym (bits_take ms k m n i is h))
 
 -- a test of the signal of a mask is one of any signal, where it is the same
 at_signal : (n k : ℕ) (f : ℕ → Bool) (a x : Bool) → x ≡ (a && f k) → (nat_eq n k && x) ≡ ((nat_eq n k && a) && f n)
@@ -72,7 +62,7 @@ at_signal n k f a x e = go (nat_eq n k) refl where
 
 tested_more : (ms : List Mask) (f : ℕ → Bool) (k : ℕ) (m : Mask) (n i : ℕ) (x old before after : Bool) → m ≡ get_or ms k m → k < length ms → x ≡ (has_bit m.bits i && f m.number) → before ≡ (old || (bits_in (take k ms) n i && f n)) → after ≡ (before || (nat_eq n m.number && x)) → after ≡ (old || (bits_in (take (suc k) ms) n i && f n))
 tested_more ms f k m n i x old before after is h e here g =
-    g ∙ ap (λ (b : Bool). before || b) (at_signal n m.number f (has_bit m.bits i) x e) ∙ ap (λ (b : Bool). b || ((nat_eq n m.number && has_bit m.bits i) && f n)) here ∙ onto old (bits_in (take k ms) n i && f n) ((nat_eq n m.number && has_bit m.bits i) && f n) ∙ ap (λ (b : Bool). old || b) (kept_more ms k m n i (f n) is h)
+    g ∙ ap (λ (b : Bool). before || b) (at_signal n m.number f (has_bit m.bits i) x e) ∙ ap (λ (b : Bool). b || ((nat_eq n m.number && has_bit m.bits i) && f n)) here ∙ or-again old (bits_in (take k ms) n i && f n) ((nat_eq n m.number && has_bit m.bits i) && f n) ∙ ap (λ (b : Bool). old || b) (kept_more ms k m n i (f n) is h)
 
 pub common_more : (ms others : List Mask) (k : ℕ) (m : Mask) (n i there bits : ℕ) (old before after : Bool) → m ≡ get_or ms k m → k < length ms → has_bit there i ≡ bits_in others m.number i → has_bit bits i ≡ (has_bit m.bits i && has_bit there i) → before ≡ (old || (bits_in (take k ms) n i && bits_in others n i)) → after ≡ (before || (nat_eq n m.number && has_bit bits i)) → after ≡ (old || (bits_in (take (suc k) ms) n i && bits_in others n i))
 common_more ms others k m n i there bits old before after is h e f here g = tested_more ms (λ (j : ℕ). bits_in others j i) k m n i (has_bit bits i) old before after is h (f ∙ ap (λ (b : Bool). has_bit m.bits i && b) e) here g

@@ -1,16 +1,16 @@
 -- A mutation has one word.
-use Rattle.std.proofs.Common.{◌≡◌, ℕ, true, false, List, refl, ap, sym, ◌∙◌, subst}
+use Rattle.std.proofs.Common.{◌≡◌, ℕ, List, refl, ap, sym, ◌∙◌, subst}
 use Rattle.netlist_core.specs.declared.raw.RawNetlist.{RawNetlist}
 use Rattle.mutation_sites.specs.declared.site.Site.{Site}
 use Rattle.tb_machine.specs.Phases.{Setting, State}
 use Rattle.tb_machine.specs.Simulations.{Outcome, IsSimulation, phases_of}
 use Rattle.tb_turns.specs.declared.verdict.SimVerdict.{SimVerdict}
-use Rattle.tb_turns.specs.declared.verdict.SimVerdict.TheVariants as v
 use Rattle.tb_turns.specs.Verdicts.{IsWord}
 use Rattle.sim_words.specs.SimWords.{IsMutant, SimBench, RunsDesigns, IsBenchWord, HasCyclesOf}
 use Rattle.sim_words.specs.Laws.{MutantsTellTheSame, OneSimWord}
 use Rattle.sim_words.proofs.Cycles.{mutants_cycles}
 use Rattle.sim_words.proofs.Moving.{simulation-moved}
+use Rattle.tb_turns.proofs.Words.{one_word as word-once}
 
 -- the bench tells the same of a netlist with the same cycles
 word-moved : (bench : SimBench) → RunsDesigns bench → (limit : ℕ) (pass fail : List ℕ) (netlist a b : RawNetlist) (site : Site) (word : SimVerdict) → IsMutant netlist site a → IsMutant netlist site b → IsBenchWord bench limit pass fail a word → IsBenchWord bench limit pass fail b word
@@ -26,18 +26,6 @@ word-moved bench runs limit pass fail netlist a b site word of_a of_b told =
 
 pub tell_the_same : MutantsTellTheSame
 tell_the_same = record { cycles = mutants_cycles; words = word-moved }
-
--- an outcome has one word
-word-once : (o : Outcome) (pass fail : List ℕ) (x y : SimVerdict) → IsWord o pass fail x → IsWord o pass fail y → x ≡ y
-word-once o pass fail v.Pass v.Pass p q = refl
-word-once o pass fail v.Pass v.Fail p q = absurd (q.1 p.1)
-word-once o pass fail v.Pass v.Hang p q = absurd (let wrong : true ≡ false = sym p.0 ∙ q in cc)
-word-once o pass fail v.Fail v.Pass p q = absurd (p.1 q.1)
-word-once o pass fail v.Fail v.Fail p q = refl
-word-once o pass fail v.Fail v.Hang p q = absurd (let wrong : true ≡ false = sym p.0 ∙ q in cc)
-word-once o pass fail v.Hang v.Pass p q = absurd (let wrong : true ≡ false = sym q.0 ∙ p in cc)
-word-once o pass fail v.Hang v.Fail p q = absurd (let wrong : true ≡ false = sym q.0 ∙ p in cc)
-word-once o pass fail v.Hang v.Hang p q = refl
 
 pub one_word : OneSimWord
 one_word bench runs limit pass fail netlist mutated site x y is once of_x of_y =

@@ -1,19 +1,11 @@
 -- Characters in UTF-8, byte by byte: what begins one, and what goes on to none.
-use Rattle.std.proofs.Common.{◌≡◌, ◌≢◌, ℕ, ◌+◌, ◌-◌, ◌<◌, ◌≤◌, ◌⊎◌, inl, inr, ⊎_elim, true, false, List, [], ◌∷◌, ◌++◌, length, get_or, take, sym, subst, ap, ◌∙◌, arith}
-use Rattle.std.proofs.lemmas.Bool.{cases_eq, cases_lt}
-use Rattle.std.proofs.lemmas.Bool.Decides.{nat_tests}
-use Rattle.std.proofs.lemmas.List.{append-nil}
-use Rattle.std.proofs.lemmas.List.Elements.{All-cons, All-nil, All-head}
-use Rattle.std.proofs.lemmas.Str.{IsUtf8-nil}
+use Rattle.site_texts.proofs.Common.{◌≡◌, ◌≢◌, ℕ, ◌+◌, ◌-◌, ◌<◌, ◌≤◌, ◌⊎◌, inl, inr, ⊎_elim, true, false, List, [], ◌∷◌, ◌++◌, length, get_or, take, sym, subst, ap, ◌∙◌, arith, cases_eq, cases_lt}
+use Rattle.site_texts.proofs.Common.{nat_tests, append-nil, All-cons, All-nil, All-head, IsUtf8-nil, IsUtf8, StartsWithNoChar, no_text, IsCharacter, IsSolid, is_blank, Whole, Cut}
 use Rattle.std.specs.Int.{is_in_range}
-use Rattle.std.specs.Str.{IsUtf8, StartsWithNoChar}
 use Rattle.std.specs.Str.Lossy.{second_byte_max, second_byte_min}
 use Rattle.std.proofs.str.Faults.{Ranged, no_char}
 use Rattle.std.proofs.str.Laws.{Follows}
 use Rattle.std.proofs.str.Valid.{of_one, of_two, of_three, of_four}
-use Rattle.std.proofs.iter.FirstChar.{no_text}
-use Rattle.site_texts.specs.Names.{IsCharacter, IsSolid, is_blank}
-use Rattle.site_texts.specs.declared.character.Character.TheVariants.{Whole, Cut}
 
 abbrev IsFull : ℕ → Type 0
 IsFull byte = is_blank byte ≡ false

@@ -1,11 +1,7 @@
 -- The search for a word of a choice.
-use Rattle.std.proofs.Common.{◌≡◌, ◌≢◌, ℕ, zero, suc, ◌+◌, ◌<◌, ◌≤◌, ◌⊎◌, ⊎_elim, Bool, true, false, cond, List, [], ◌∷◌, ◌++◌, length, get_or, take, drop, slice_get, Option, Some, None, refl, sym, subst, ap, ap₂, ◌∙◌, arith, nat_lt}
-use Rattle.std.proofs.lemmas.Bool.{cases_eq, cases_lt}
-use Rattle.std.proofs.lemmas.Bool.Decides.{nat_tests}
-use Rattle.std.proofs.lemmas.List.{append_assoc, drop_more, take-append-drop, take_all, get_or_append_left, get_or_at, get_or-take, get_or_past, length-append, length-take-le}
-use Rattle.std.specs.Prelude.{decimal}
-use Rattle.site_texts.specs.Choices.{GoesAlong, IsBadField, IsRead, IsSameFront, IsWordOf, Misses, is_control, word_of}
-use Rattle.site_texts.specs.declared.choice.Choice.{Choice}
+use Rattle.site_texts.proofs.Common.{◌≡◌, ◌≢◌, ℕ, zero, suc, ◌+◌, ◌<◌, ◌≤◌, ◌⊎◌, ⊎_elim, Bool, true, false, cond, List, [], ◌∷◌, ◌++◌, length, get_or, take, drop, slice_get, Option, Some, None, refl}
+use Rattle.site_texts.proofs.Common.{sym, subst, ap, ap₂, ◌∙◌, arith, nat_lt, cases_eq, cases_lt, nat_tests, append_assoc, drop_more, take-append-drop, take_all, get_or_append_left, get_or_at}
+use Rattle.site_texts.proofs.Common.{get_or-take, get_or_past, length-append, length-take-le, decimal, GoesAlong, IsBadField, IsRead, IsSameFront, IsWordOf, Misses, is_control, word_of, Choice}
 use Rattle.site_texts.specs.declared.choice.Choice.TheVariants as field
 use Rattle.site_texts.specs.declared.choice.Along.TheVariants.{Whole, Until, NoWord}
 use Rattle.site_texts.proofs.Splits.{take_further}

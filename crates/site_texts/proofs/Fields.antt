@@ -1,21 +1,14 @@
 -- Where each field of a site text is bad, and where the text is bad behind it.
-use Rattle.std.proofs.Common.{◌≡◌, ℕ, ◌+◌, ◌-◌, ◌<◌, ◌^◌, Bool, true, false, cond, List, [], ◌∷◌, ◌++◌, length, Option, Some, None, refl, sym, subst, ap, ◌∙◌, arith, eqb, nat_lt}
-use Rattle.std.proofs.lemmas.Bool.Decides.{nat_tests}
-use Rattle.std.proofs.lemmas.Fmt.{decimal_injective}
-use Rattle.std.specs.Prelude.{decimal}
-use Rattle.mutation_sites.specs.declared.mode.Mode.{Mode}
-use Rattle.mutation_sites.specs.SiteTexts.{mode_text}
+use Rattle.site_texts.proofs.Common.{◌≡◌, ℕ, ◌+◌, ◌-◌, ◌<◌, ◌^◌, Bool, true, false, cond, List, [], ◌∷◌, ◌++◌, length, Option, Some, None, refl, sym, subst, ap, ◌∙◌, arith, eqb, nat_lt, nat_tests}
+use Rattle.site_texts.proofs.Common.{decimal_injective, decimal, Mode, mode_text, SiteText, IsBadField, IsWordOf, is_control, word_of, IsName, HasBit, HasMode, HasPlace, IsAny, IsStuck, HasControl}
+use Rattle.site_texts.proofs.Common.{IsSite, after_bit, bit_text, control_text, kind_text, name_text, place_text, port_text, reads_control, site_text, source_text, top_text}
 use Rattle.site_texts.specs.declared.choice.Choice.TheVariants as field
-use Rattle.site_texts.specs.declared.site.SiteText.{SiteText}
-use Rattle.site_texts.specs.Choices.{IsBadField, IsWordOf, is_control, word_of}
-use Rattle.site_texts.specs.Names.{IsName}
-use Rattle.site_texts.specs.Rests.{HasBit, HasMode, HasPlace, IsAny, IsStuck}
-use Rattle.site_texts.specs.SiteTexts.{HasControl, IsSite, after_bit, bit_text, control_text, kind_text, name_text, place_text, port_text, reads_control, site_text, source_text, top_text}
 use Rattle.site_texts.proofs.Choosing.{word_below}
 use Rattle.site_texts.proofs.Fronts.{solid_no_space}
 use Rattle.site_texts.proofs.Splits.{NoSpace}
 use Rattle.site_texts.proofs.Stuck.{HasField, Splits, field_stuck, rest_stuck}
-use Rattle.site_texts.proofs.Words.{chosen_is, decimal_no_space, mode_at, mode_fits, mode_no_space, mode_same, place_at, place_fits, place_no_space, place_same, plain_fields, plain_site, word_no_space}
+use Rattle.site_texts.proofs.Words.{chosen_is, decimal_no_space, mode_at, mode_fits, mode_no_space, mode_same, place_at, place_fits, place_no_space, place_same, plain_fields, plain_site}
+use Rattle.site_texts.proofs.Words.{word_no_space}
 
 -- the mode
 abbrev mode_field : SiteText → List ℕ

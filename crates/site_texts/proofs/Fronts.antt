@@ -1,16 +1,9 @@
 -- How far a text is UTF-8 without blanks, character by character, and names.
-use Rattle.std.proofs.Common.{◌≡◌, ◌≢◌, ℕ, zero, suc, ◌+◌, ◌<◌, ◌≤◌, ⊎_elim, false, List, [], ◌∷◌, ◌++◌, length, get_or, take, drop, refl, sym, subst, ap, ◌∙◌, arith}
-use Rattle.std.proofs.lemmas.Bool.{cases_eq, cases_lt}
-use Rattle.std.proofs.lemmas.List.{append_assoc, append-nil, take-append-drop, take-append-le, take_at, take-take, drop_at, drop_more, length-append, length-drop, length-take-le, get_or_append_left, get_or_at, get_or-take}
-use Rattle.std.proofs.lemmas.List.Elements.{All-append, All-drop, All-get_or}
-use Rattle.std.proofs.lemmas.Str.{IsUtf8-append}
-use Rattle.std.specs.List.{All}
-use Rattle.std.specs.Str.{IsUtf8}
-use Rattle.std.proofs.iter.FirstChar.{after_text}
+use Rattle.site_texts.proofs.Common.{◌≡◌, ◌≢◌, ℕ, zero, suc, ◌+◌, ◌<◌, ◌≤◌, ⊎_elim, false, List, [], ◌∷◌, ◌++◌, length, get_or, take, drop, refl, sym, subst, ap, ◌∙◌, arith, cases_eq, cases_lt}
+use Rattle.site_texts.proofs.Common.{append_assoc, append-nil, take-append-drop, take-append-le, take_at, take-take, drop_at, drop_more, length-append, length-take-le, get_or_append_left, get_or_at}
+use Rattle.site_texts.proofs.Common.{get_or-take, All-append, All-drop, All-get_or, IsUtf8-append, All, IsUtf8, after_text, IsBadField, IsCharacter, IsFront, IsName, IsSolid, is_blank, Cut}
+use Rattle.std.proofs.lemmas.List.{length-drop}
 use Rattle.std.proofs.str.Valid.{of_one}
-use Rattle.site_texts.specs.Choices.{IsBadField}
-use Rattle.site_texts.specs.Names.{IsCharacter, IsFront, IsName, IsSolid, is_blank}
-use Rattle.site_texts.specs.declared.character.Character.TheVariants.{Cut}
 use Rattle.site_texts.specs.declared.name.Front.{Front}
 use Rattle.site_texts.proofs.Characters.{solid_1}
 use Rattle.site_texts.proofs.Splits.{NoSpace, NoSpace-from}

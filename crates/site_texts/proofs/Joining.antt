@@ -1,18 +1,8 @@
 -- What was read of a site's fields, with the part behind them.
-use Rattle.std.proofs.Common.{◌≡◌, ℕ, ◌<◌, Bool, true, false, List, ◌∷◌, ◌++◌, Option, Some, None, refl, sym, subst, ap, ◌∙◌}
-use Rattle.std.specs.Prelude.{decimal}
-use Rattle.mutation_sites.specs.declared.mode.Mode.{Mode}
-use Rattle.mutation_sites.specs.SiteTexts.{mode_text}
+use Rattle.site_texts.proofs.Common.{◌≡◌, ℕ, ◌<◌, Bool, true, false, List, ◌∷◌, ◌++◌, Option, Some, None, refl, sym, subst, ap, ◌∙◌, decimal, Mode, mode_text, Bits, Parts, PlaceText, SiteText, Source}
+use Rattle.site_texts.proofs.Common.{IsWordOf, word_of, IsName, AreOf, AreOfBits, AreOfControl, AreOfPlace, AreOfPort, AreOfSource, HasBit, HasMode, HasPlace, IsAny, IsPart, bit_text, control_text}
+use Rattle.site_texts.proofs.Common.{kind_text, name_text, place_text, port_text, reads_control, site_text, source_text, top_text}
 use Rattle.site_texts.specs.declared.choice.Choice.TheVariants as field
-use Rattle.site_texts.specs.declared.parts.Bits.{Bits}
-use Rattle.site_texts.specs.declared.parts.Parts.{Parts}
-use Rattle.site_texts.specs.declared.parts.PlaceText.{PlaceText}
-use Rattle.site_texts.specs.declared.site.SiteText.{SiteText}
-use Rattle.site_texts.specs.declared.source.Source.{Source}
-use Rattle.site_texts.specs.Choices.{IsWordOf, word_of}
-use Rattle.site_texts.specs.Names.{IsName}
-use Rattle.site_texts.specs.Rests.{AreOf, AreOfBits, AreOfControl, AreOfPlace, AreOfPort, AreOfSource, HasBit, HasMode, HasPlace, IsAny, IsPart}
-use Rattle.site_texts.specs.SiteTexts.{bit_text, control_text, kind_text, name_text, place_text, port_text, reads_control, site_text, source_text, top_text}
 use Rattle.site_texts.proofs.Fields.{bit_is, control_fields, control_is, name_fields, port_fields, top_fields, with_control, with_name, with_port, with_top}
 
 pub mode_part : (mode : Mode) (word : List ℕ) → word ≡ mode_text mode → (Fields : SiteText → Type 0) (text behind : List ℕ) → text ≡ word ++ 32 ∷ behind → IsPart (HasMode mode) top_text Fields behind → IsPart IsAny site_text Fields text

@@ -1,9 +1,5 @@
 -- Whole site texts: what was read field by field is a site text, and what is stuck is bad there.
-use Rattle.std.proofs.Common.{◌≡◌, ℕ, List, sym, subst, ◌∙◌}
-use Rattle.site_texts.specs.declared.parts.Parts.{Parts}
-use Rattle.site_texts.specs.declared.site.SiteText.{SiteText}
-use Rattle.site_texts.specs.Rests.{AreOf, IsAny, IsPart, IsStuck}
-use Rattle.site_texts.specs.SiteTexts.{IsBadAt, IsSiteText, site_text}
+use Rattle.site_texts.proofs.Common.{◌≡◌, ℕ, List, sym, subst, ◌∙◌, Parts, SiteText, AreOf, IsAny, IsPart, IsStuck, IsBadAt, IsSiteText, site_text}
 
 -- fields are those of one site
 pub same_site : (parts : Parts) (a b : SiteText) → AreOf parts a → AreOf parts b → a ≡ b

@@ -1,23 +1,12 @@
 -- The end of a site text: a file and a line.
-use Rattle.std.proofs.Common.{◌≡◌, ◌≢◌, ℕ, zero, suc, ◌+◌, ◌-◌, ◌<◌, ◌≤◌, ◌^◌, ⊎_elim, Bool, true, false, cond, eqb, List, [], ◌∷◌, ◌++◌, length, get_or, take, drop, Some, None, Err, refl, sym, subst, ap, ap₂, ◌∙◌, arith, rules}
-use Rattle.std.proofs.lemmas.Bool.{cases_eq, cases_lt}
-use Rattle.std.proofs.lemmas.Bool.Decides.{nat_tests}
-use Rattle.std.proofs.lemmas.Fmt.{IsAscii-decimal, decimal-digits_value, decimal_digit, decimal_is_IsNumeral, decimal_nonempty, first_decimal, parse-decimal}
-use Rattle.std.proofs.lemmas.List.{append_assoc, append-nil, drop_at, drop_more, length-append, length-take-le, take_all, take_at, take-append-drop, get_or-append-add, get_or_at}
-use Rattle.std.proofs.lemmas.List.Elements.{All-append, All-from_get_or, All-take}
-use Rattle.std.proofs.lemmas.Str.{IsCharBoundary-before_ascii, IsUtf8-append, IsUtf8-from_ascii, IsUtf8-take}
-use Rattle.std.proofs.lemmas.Str.Parse.{IsNumeralModel, digit_at, numerals_by_value}
-use Rattle.std.specs.Prelude.{decimal}
-use Rattle.std.specs.List.{All}
-use Rattle.std.specs.Str.{IsAscii, IsUtf8}
+use Rattle.site_texts.proofs.Common.{◌≡◌, ◌≢◌, ℕ, zero, suc, ◌+◌, ◌-◌, ◌<◌, ◌≤◌, ◌^◌, ⊎_elim, Bool, true, false, cond, eqb, List, [], ◌∷◌, ◌++◌, length, get_or, take, drop, Some, None, Err, refl, sym}
+use Rattle.site_texts.proofs.Common.{subst, ap, ap₂, ◌∙◌, arith, rules, cases_eq, cases_lt, nat_tests, IsAscii-decimal, decimal-digits_value, decimal_digit, decimal_is_IsNumeral, decimal_nonempty}
+use Rattle.site_texts.proofs.Common.{first_decimal, parse-decimal, append_assoc, append-nil, drop_at, drop_more, length-append, length-take-le, take_all, take_at, take-append-drop, get_or-append-add}
+use Rattle.site_texts.proofs.Common.{get_or_at, All-append, All-from_get_or, All-take, IsCharBoundary-before_ascii, IsUtf8-append, IsUtf8-from_ascii, IsUtf8-take, IsNumeralModel, digit_at}
+use Rattle.site_texts.proofs.Common.{numerals_by_value, decimal, All, IsAscii, IsUtf8, Inv, SiteText, Source, IsFront, IsName, IsSolid, is_blank, AreOfSource, IsAny, IsLastColon, IsNoLine, IsNoSource}
+use Rattle.site_texts.proofs.Common.{IsPart, IsRest, IsSource, IsStuck, IsSite, source_text}
 use Rattle.std.specs.Str.Parse.{AllDigits, IsNumeral, digits_value, without_leading_plus}
-use Rattle.mutation_sites.specs.declared.mode.Mode.TheVariants.{Inv}
 use Rattle.site_texts.specs.declared.name.Front.{Front}
-use Rattle.site_texts.specs.declared.site.SiteText.{SiteText}
-use Rattle.site_texts.specs.declared.source.Source.{Source}
-use Rattle.site_texts.specs.Names.{IsFront, IsName, IsSolid, is_blank}
-use Rattle.site_texts.specs.Rests.{AreOfSource, IsAny, IsLastColon, IsNoLine, IsNoSource, IsPart, IsRest, IsSource, IsStuck}
-use Rattle.site_texts.specs.SiteTexts.{IsSite, source_text}
 use Rattle.site_texts.proofs.Words.{plain_fields, plain_site}
 use Rattle.site_texts.proofs.Fronts.{letter, solid-append}
 

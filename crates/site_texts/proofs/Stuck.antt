@@ -1,11 +1,6 @@
 -- A part of a site text that begins with a field: where it is bad in the field, and where behind it.
-use Rattle.std.proofs.Common.{◌≡◌, ℕ, ◌+◌, ◌-◌, ◌<◌, List, [], ◌∷◌, ◌++◌, length, take, Result, Ok, Err, sym, subst, ap, ◌∙◌, arith}
-use Rattle.std.proofs.lemmas.List.{append_assoc, length-append}
-use Rattle.std.specs.Prelude.{IsErrAnd, MatchResult}
-use Rattle.site_texts.specs.declared.site.SiteText.{SiteText}
-use Rattle.site_texts.specs.Choices.{IsBadField}
-use Rattle.site_texts.specs.Rests.{IsRest, IsStuck}
-use Rattle.site_texts.specs.SiteTexts.{IsSite}
+use Rattle.site_texts.proofs.Common.{◌≡◌, ℕ, ◌+◌, ◌-◌, ◌<◌, List, [], ◌∷◌, ◌++◌, length, take, Result, Ok, Err, sym, subst, ap, ◌∙◌, arith, append_assoc, length-append, IsErrAnd, MatchResult}
+use Rattle.site_texts.proofs.Common.{SiteText, IsBadField, IsRest, IsStuck, IsSite}
 use Rattle.site_texts.proofs.Splits.{NoSpace, one_split, take_behind}
 
 -- a site of which this is known, with this field

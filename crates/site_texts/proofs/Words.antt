@@ -1,18 +1,8 @@
 -- The words of site texts, what they stand for, and a site with given mode, place and bit.
-use Rattle.std.proofs.Common.{◌≡◌, ℕ, zero, suc, ◌<◌, ◌^◌, Bool, true, false, not, ◌&&◌, cond, List, [], ◌∷◌, get_or, slice_get, Option, Some, None, refl, sym, subst, ap, ◌∙◌, arith, eqb, nat_lt, codes}
-use Rattle.std.proofs.lemmas.Bool.{and_parts}
-use Rattle.std.proofs.lemmas.Fmt.{decimal_is_IsNumeral}
-use Rattle.std.proofs.lemmas.Str.Parse.{digit_at}
-use Rattle.std.specs.Prelude.{decimal}
-use Rattle.mutation_sites.specs.declared.mode.Mode.{Mode}
-use Rattle.mutation_sites.specs.declared.mode.Mode.TheVariants.{Inv, Const0, Const1, Cnot0, Cnot1}
-use Rattle.mutation_sites.specs.SiteTexts.{mode_text}
-use Rattle.site_texts.specs.declared.choice.Choice.{Choice}
+use Rattle.site_texts.proofs.Common.{◌≡◌, ℕ, zero, suc, ◌<◌, ◌^◌, Bool, true, false, not, ◌&&◌, cond, List, [], ◌∷◌, get_or, slice_get, Option, Some, None, refl, sym, subst, ap, ◌∙◌, arith, eqb}
+use Rattle.site_texts.proofs.Common.{nat_lt, codes, and_parts, decimal_is_IsNumeral, digit_at, decimal, Mode, Inv, Const0, Const1, Cnot0, Cnot1, mode_text, Choice, SiteText, IsWordOf, is_control}
+use Rattle.site_texts.proofs.Common.{mode_words, place_words, port_words, word_of, IsName, HasControl, IsSite, place_text}
 use Rattle.site_texts.specs.declared.choice.Choice.TheVariants as field
-use Rattle.site_texts.specs.declared.site.SiteText.{SiteText}
-use Rattle.site_texts.specs.Choices.{IsWordOf, is_control, mode_words, place_words, port_words, word_of}
-use Rattle.site_texts.specs.Names.{IsName}
-use Rattle.site_texts.specs.SiteTexts.{HasControl, IsSite, place_text}
 use Rattle.site_texts.proofs.Choosing.{later_control, word_below}
 use Rattle.site_texts.proofs.Fronts.{letter}
 use Rattle.site_texts.proofs.Splits.{NoSpace, NoSpace-from}

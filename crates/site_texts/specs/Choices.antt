@@ -30,6 +30,8 @@ word_of (field.Control bit) n = if is_control bit n then Some (decimal n) else N
 abbrev pub IsWordOf : Choice → List ℕ → Type 0
 IsWordOf choice word = (n : ℕ) × (word_of choice n ≡ Some word)
 
+-- For proofs alone.
+
 -- the text is the word of this number, a blank and the rest
 abbrev pub IsRead : Choice → List ℕ → ℕ → List ℕ → Type 0
 IsRead choice text n rest = (word : List ℕ) × (word_of choice n ≡ Some word) × (text ≡ word ++ 32 ∷ rest)

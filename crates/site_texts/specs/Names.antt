@@ -19,6 +19,8 @@ pub record IsName (name : List ℕ) : Type 0 where
   pub some : 0 < length name
   pub text : IsSolid name
 
+-- For proofs alone.
+
 -- Such text goes on up to the place and no further; where bytes stand between the whole characters and the place, these
 -- begin a character and are none.
 pub record IsCut (text : List ℕ) (at : ℕ) : Type 0 where

@@ -8,6 +8,8 @@ use Rattle.site_texts.specs.declared.source.Source.{Source}
 use Rattle.site_texts.specs.declared.site.SiteText.{SiteText}
 use Rattle.site_texts.specs.SiteTexts.{IsSite}
 
+-- For proofs alone.
+
 -- the text is this part of a site's text, of a site of which this is known
 pub record IsRest (Known : SiteText → Type 0) (part : SiteText → List ℕ) (text : List ℕ) : Type 0 where
   pub site : SiteText

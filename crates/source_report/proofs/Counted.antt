@@ -1,21 +1,12 @@
 -- What is counted over a state's lists, and what is counted over the answers that they come from.
-use Rattle.std.proofs.Common.{◌≡◌, ℕ, ◌+◌, ◌<◌, Bool, true, false, List, [], ◌∷◌, ◌++◌, length, map, take, slice_get, cond, count_by, Option, Some, refl, sym, ◌∙◌, ap}
+use Rattle.source_report.proofs.Common.{◌≡◌, ℕ, ◌+◌, ◌<◌, Bool, true, false, List, [], ◌∷◌, ◌++◌, length, map, take, slice_get, cond, count_by, Option, Some, refl, sym, ◌∙◌, ap, take_more, Entry}
+use Rattle.source_report.proofs.Common.{TestWord, Campaign, IsFit, Answer, ask, each_from, word_in, words_of, answers_of, ask_on, groups, groups_from, read_on, read_asks, is_word, word_count}
 use Rattle.std.specs.Prelude.{option_map}
-use Rattle.std.proofs.lemmas.List.{take_more}
 use Rattle.std.proofs.lemmas.List.Sums.{count_by_more_no, count_by_more_yes, sum_by-cons}
 use Rattle.std.proofs.lemmas.Option.{get_or_from_slice_get, slice_get-map, slice_get_within}
-use Rattle.mcy_keeper.specs.declared.book.Entry.{Entry}
-use Rattle.result_book.specs.declared.script.TestWord.{TestWord}
 use Rattle.tag_script.specs.Outcomes.{word_at}
-use Rattle.result_book.specs.declared.campaign.Campaign.{Campaign}
-use Rattle.result_book.specs.Campaigns.{IsFit}
-use Rattle.result_book.specs.declared.answer.Answer.{Answer}
-use Rattle.result_book.specs.Scripts.{ask, each_from, word_in, words_of}
-use Rattle.result_book.specs.Rows.{answers_of, ask_on, groups, groups_from, read_on}
 use Rattle.result_book.proofs.Each.{each_at, each_from-same, length-each_from, map-each_from}
-use Rattle.result_book.proofs.Reading.{read_asks}
 use Rattle.result_book.proofs.Words.{word_at-words_of}
-use Rattle.source_report.specs.Texts.{is_word, word_count}
 
 pub length-groups_from : (c : Campaign) (m n : ℕ) (rows : List Entry) → length (groups_from c m n rows) ≡ n
 length-groups_from c m n rows = length-each_from (λ k. read_on c k rows) m n

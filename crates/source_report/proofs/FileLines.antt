@@ -1,6 +1,5 @@
 -- The lines of a file, from its parts between newlines.
-use Rattle.std.proofs.Common.{◌≡◌, ℕ, zero, suc, ◌<◌, List, [], ◌∷◌, length, drop, get_or, sym, ap, subst, arith}
-use Rattle.std.specs.Str.Lines.{lines_of_parts, strip_carriage_return}
+use Rattle.source_report.proofs.Common.{◌≡◌, ℕ, zero, suc, ◌<◌, List, [], ◌∷◌, length, drop, get_or, sym, ap, subst, arith, lines_of_parts, strip_carriage_return}
 
 inside : (parts : List (List ℕ)) (row : ℕ) (part : List ℕ) → suc row < length parts → part ≡ get_or parts row part → lines_of_parts (drop row parts) ≡ strip_carriage_return part ∷ lines_of_parts (drop (suc row) parts)
 inside [] row part within is = absurd (omega (arith, within))

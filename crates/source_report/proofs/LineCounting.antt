@@ -1,19 +1,11 @@
 -- The counts of a file's lines, from mutation to mutation, and over all.
-use Rattle.std.proofs.Common.{◌≡◌, ◌≢◌, ◌⊎◌, ℕ, zero, suc, ◌+◌, ◌^◌, ◌<◌, ◌≤◌, Bool, true, false, ◌&&◌, ◌==◌, cond, if◌then◌else◌, List, [], ◌∷◌, ◌++◌, length, map, take, set, slice_get, slice_index, count_by, Option, Some, None, IfSome, MatchOption, Vec, Global, refl, sym, ◌∙◌, ap, subst, inl, inr, arith}
-use Rattle.std.specs.List.{zip}
+use Rattle.source_report.proofs.Common.{◌≡◌, ◌≢◌, ◌⊎◌, ℕ, zero, suc, ◌+◌, ◌^◌, ◌<◌, ◌≤◌, Bool, true, false, ◌&&◌, ◌==◌, cond, if◌then◌else◌, List, [], ◌∷◌, ◌++◌, length, map, take, set, slice_get}
+use Rattle.source_report.proofs.Common.{slice_index, count_by, Option, Some, None, IfSome, MatchOption, Vec, Global, refl, sym, ◌∙◌, ap, subst, inl, inr, arith, zip, get_or-set_other, length-set}
+use Rattle.source_report.proofs.Common.{length-take, Ask, Campaign, Answer, ask, End, Tag, end_count, tag_counts, answers_at, counted, is_at, is_counted, is_wanted, wanted_count, AreLineCounts}
 use Rattle.std.proofs.lemmas.Bool.Decides.{eqb_tells}
 use Rattle.std.proofs.lemmas.Grind.{get_or-set_at}
-use Rattle.std.proofs.lemmas.List.{get_or-set_other, length-set, length-take}
 use Rattle.std.proofs.lemmas.List.Sums.{count_by-le-length}
-use Rattle.tag_script.specs.declared.answer.Ask.{Ask}
-use Rattle.result_book.specs.declared.campaign.Campaign.{Campaign}
-use Rattle.result_book.specs.declared.answer.Answer.{Answer}
-use Rattle.result_book.specs.Scripts.{ask}
-use Rattle.source_report.specs.declared.counts.End.{End}
-use Rattle.source_report.specs.declared.counts.End.TheVariants.{Tag}
-use Rattle.source_report.specs.Texts.{end_count, tag_counts}
 use Rattle.source_report.specs.declared.line_counts.LineCounts.{LineCounts}
-use Rattle.source_report.specs.Sources.{answers_at, counted, is_at, is_counted, is_wanted, wanted_count, AreLineCounts}
 use Rattle.source_report.proofs.Counted.{count-cons, count_no, count_yes}
 
 abbrev pub Mutation : Type 0

@@ -1,16 +1,8 @@
 -- The lines of a text, one after another.
-use Rattle.std.proofs.Common.{◌≡◌, ℕ, suc, ◌+◌, ◌-◌, ◌<◌, ◌^◌, List, [], ◌∷◌, ◌++◌, arith, codes, decimal, length, get_or, drop, sym, ◌∙◌, ap, append_assoc}
-use Rattle.std.proofs.lemmas.List.{drop_more}
+use Rattle.source_report.proofs.Common.{◌≡◌, ℕ, suc, ◌+◌, ◌-◌, ◌<◌, ◌^◌, List, [], ◌∷◌, ◌++◌, arith, codes, decimal, length, get_or, drop, sym, ◌∙◌, ap, append_assoc, drop_more, Entry, Campaign}
+use Rattle.source_report.proofs.Common.{Answer, groups_from, read_on, answer_text, answers_text, list_line, list_lines, Tag, answers_at, file_text, file_texts, line_text, source_lines, end_count}
+use Rattle.source_report.proofs.Common.{tag_counts, tag_line, tag_lines, test_line, test_lines, third_word, word_count, word_name, Pass, Fail}
 use Rattle.mcy_base.specs.declared.file.SourceFile.{SourceFile}
-use Rattle.mcy_keeper.specs.declared.book.Entry.{Entry}
-use Rattle.result_book.specs.declared.campaign.Campaign.{Campaign}
-use Rattle.result_book.specs.declared.answer.Answer.{Answer}
-use Rattle.result_book.specs.Rows.{groups_from, read_on}
-use Rattle.source_report.specs.Lists.{answer_text, answers_text, list_line, list_lines}
-use Rattle.source_report.specs.declared.counts.End.TheVariants.{Tag}
-use Rattle.source_report.specs.Sources.{answers_at, file_text, file_texts, line_text, source_lines}
-use Rattle.source_report.specs.Texts.{end_count, tag_counts, tag_line, tag_lines, test_line, test_lines, third_word, word_count, word_name}
-use Rattle.result_book.specs.declared.script.TestWord.TheVariants.{Pass, Fail}
 
 -- a text with the line of the next tag, and the lines after it, is the text with all these lines
 pub tag_lines-more : (c : Campaign) (groups : List (List Answer)) (tag : ℕ) (names : List (List ℕ)) (name text : List ℕ) (count : ℕ) → tag < length names → name ≡ get_or names tag name → count ≡ end_count c groups (Tag (2 ^ tag))

@@ -1,16 +1,7 @@
 -- The counts of tags by their names.
-use Rattle.std.proofs.Common.{◌≡◌, ℕ, ◌+◌, ◌<◌, ◌≤◌, List, arith, length, get_or, drop, ◌∙◌, ap}
-use Rattle.std.proofs.lemmas.List.{drop_more}
+use Rattle.source_report.proofs.Common.{◌≡◌, ℕ, ◌+◌, ◌<◌, ◌≤◌, List, arith, length, get_or, drop, ◌∙◌, ap, drop_more, Entry, Campaign, Answer, IsFit, groups, ask, End, named_count, tag_count}
+use Rattle.source_report.proofs.Common.{end_count, is_end}
 use Rattle.std.proofs.lemmas.List.Sums.{count_by-le-length}
-use Rattle.mcy_keeper.specs.declared.book.Entry.{Entry}
-use Rattle.result_book.specs.declared.campaign.Campaign.{Campaign}
-use Rattle.result_book.specs.declared.answer.Answer.{Answer}
-use Rattle.result_book.specs.Campaigns.{IsFit}
-use Rattle.result_book.specs.Rows.{groups}
-use Rattle.result_book.specs.Scripts.{ask}
-use Rattle.source_report.specs.declared.counts.End.{End}
-use Rattle.source_report.specs.Requirements.{named_count, tag_count}
-use Rattle.source_report.specs.Texts.{end_count, is_end}
 use Rattle.source_report.proofs.Counted.{length-groups_from}
 
 -- a sum with the count of the next tag, and those of the tags after it, is the sum of all these

@@ -72,6 +72,8 @@ file_texts c groups number (file ∷ files) = file_text c groups number file ++ 
 unfoldable pub source_text : Campaign → List Entry → List SourceFile → List ℕ
 source_text c rows files = file_texts c (groups c rows) 0 files
 
+-- For proofs alone.
+
 -- How the text of a file is made.
 
 -- the lines of the parts of a file from one on

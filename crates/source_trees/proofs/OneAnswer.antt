@@ -1,32 +1,18 @@
 -- Files have one answer.
-use Rattle.std.proofs.Common.{◌≡◌, ◌≢◌, ℕ, ◌+◌, List, [], ◌∷◌, ◌++◌, length, map, Result, Ok, Err, inl, inr, sym, subst, ap, ◌∙◌, arith}
+use Rattle.source_trees.proofs.Common.{◌≡◌, ◌≢◌, ℕ, ◌+◌, List, [], ◌∷◌, ◌++◌, length, map, Result, Ok, Err, inl, inr, sym, subst, ap, ◌∙◌, arith, IsUtf8, IsValidUpTo, take_all, All-head, All-tail}
+use Rattle.source_trees.proofs.Common.{SourceFile, Token, place_after, ParseError, Outcome, Gives, Refuses, Comes, start, Module, AreOneFault, AreParsed, token_of, ReadError, NotUtf8, TokenFault}
+use Rattle.source_trees.proofs.Common.{Parse, Memory, max_tokens, AllMeant, AreGiven, AreMeantBy, AreModules, AreRead, ComesTo, IsFileFault, IsNoText, IsTreeFault, IsUngiven, IsUnparsed, IsUnread}
 use Rattle.std.proofs.Math.Path.{ap₂}
 use Rattle.std.specs.List.{All}
-use Rattle.std.specs.Str.{IsUtf8, IsValidUpTo}
-use Rattle.std.proofs.lemmas.List.{take_all}
-use Rattle.std.proofs.lemmas.List.Elements.{All-head, All-tail}
 use Rattle.std.proofs.lemmas.Str.{utf8_valid_len-IsValidUpTo}
-use Rattle.mcy_base.specs.declared.file.SourceFile.{SourceFile}
-use Rattle.vlog_token.specs.declared.token.Token.{Token}
 use Rattle.vlog_token.specs.declared.token.TokenError.{TokenError}
 use Rattle.vlog_token.specs.declared.token.TokenError.TheVariants as t
-use Rattle.vlog_token.specs.Places.{place_after}
 use Rattle.vlog_token.specs.Sources.{AreTokensOf, IsRefusal, SeenToken}
 use Rattle.vlog_token.proofs.AnswerLemmas.{one_answer_only}
-use Rattle.vlog_expand.specs.declared.error.ParseError.{ParseError}
 use Rattle.vlog_expand.specs.declared.error.ParseError.TheVariants as p
-use Rattle.vlog_expand.specs.Uses.{Outcome, Gives, Refuses}
-use Rattle.vlog_expand.specs.Files.{Comes, start}
 use Rattle.vlog_expand.proofs.OneOutcome.{files_come_to_one_outcome_lem}
-use Rattle.vlog_syntax.specs.declared.module.Module.{Module}
-use Rattle.vlog_parse.specs.Parsing.{AreOneFault, AreParsed}
 use Rattle.vlog_parse.proofs.OneAnswer.{one_fault}
 use Rattle.vlog_parse.proofs.Parses.{no_fault, one_meaning}
-use Rattle.seen_tokens.specs.Bare.{token_of}
-use Rattle.source_trees.specs.declared.error.ReadError.{ReadError}
-use Rattle.source_trees.specs.declared.error.ReadError.TheVariants.{NotUtf8, Token as TokenFault, Parse, Memory}
-use Rattle.source_trees.specs.Files.{max_tokens, AreGiven, AreModules, AreRead, ComesTo}
-use Rattle.source_trees.specs.Faults.{IsFileFault, IsNoText, IsTreeFault, IsUngiven, IsUnparsed, IsUnread}
 
 -- texts
 
@@ -124,7 +110,7 @@ ungiven_once number (file ∷ more) limit x y (inr (ts, left, comes, later)) (in
 
 -- trees
 
-modules_once : (given : List (List Token)) (ms ns : List Module) → AreModules given ms → AreModules given ns → ms ≡ ns
+modules_once : (given : List (List Token)) (ms ns : List Module) → AllMeant given ms → AllMeant given ns → ms ≡ ns
 modules_once [] ms ns h k = h ∙ sym k
 modules_once (tokens ∷ more) ms ns (first, others, parsed, rest, is) (first', others', parsed', rest', are) =
     is ∙ ap₂ (λ (a b : List Module). a ++ b) (one_meaning tokens first first' parsed parsed') (modules_once more others others' rest rest') ∙ sym are
@@ -158,10 +144,21 @@ unparsed_once number (file ∷ more) (tokens ∷ rest) x y (inr (ms, parsed, lat
 
 -- whole files
 
-pub modules_are_one : (files : List SourceFile) (ms ns : List Module) → AreRead files ms → AreRead files ns → ms ≡ ns
-modules_are_one files ms ns h k =
+all_meant : (given : List (List Token)) (ms : List Module) → AreModules given ms → AllMeant given ms
+all_meant [] ms h = h
+all_meant (tokens ∷ more) ms (first, others, parsed, rest, is) = (first, others, parsed.are, all_meant more others rest, is)
+
+-- the modules that are read are what the files mean
+pub read_meant : (files : List SourceFile) (ms : List Module) → AreRead files ms → AreMeantBy files ms
+read_meant files ms h = record { texts = h.texts; given = h.given; gives = h.gives; modules = all_meant h.given ms h.modules }
+
+pub meanings_are_one : (files : List SourceFile) (ms ns : List Module) → AreMeantBy files ms → AreMeantBy files ns → ms ≡ ns
+meanings_are_one files ms ns h k =
     let same = given_once 0 files max_tokens k.given h.given k.gives h.gives in
-    modules_once h.given ms ns h.modules (subst (λ (given : List (List Token)). AreModules given ns) same k.modules)
+    modules_once h.given ms ns h.modules (subst (λ (given : List (List Token)). AllMeant given ns) same k.modules)
+
+pub modules_are_one : (files : List SourceFile) (ms ns : List Module) → AreRead files ms → AreRead files ns → ms ≡ ns
+modules_are_one files ms ns h k = meanings_are_one files ms ns (read_meant files ms h) (read_meant files ns k)
 
 pub read_without_fault : (files : List SourceFile) (ms : List Module) (e : ReadError) → AreRead files ms → IsUnread files e → e ≡ Memory
 read_without_fault files ms e read (inl memory) = memory

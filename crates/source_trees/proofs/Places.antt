@@ -1,6 +1,5 @@
 -- The place behind a file.
-use Rattle.std.proofs.Common.{◌≡◌, ℕ, List, []}
-use Rattle.vlog_token.specs.Places.{place_after, place_moved}
+use Rattle.source_trees.proofs.Common.{◌≡◌, ℕ, List, [], place_after, place_moved}
 use Rattle.vlog_token.proofs.PlaceLemmas.{moved_place}
 
 pub moved_from_first : (number : ℕ) (bytes : List ℕ) → place_moved (record { file = number; line = 1; col = 1 }) bytes ≡ place_after number bytes

@@ -1,22 +1,9 @@
 -- One file more: what is known of the files behind it is known of it and those.
-use Rattle.std.proofs.Common.{◌≡◌, ◌≢◌, ◌⊎◌, ℕ, suc, ◌+◌, ◌<◌, List, ◌∷◌, ◌++◌, length, get_or, drop, map, append_assoc, [], inl, inr, refl, sym, ap, ◌∙◌, subst}
-use Rattle.std.proofs.lemmas.List.{drop_more, map_push}
-use Rattle.std.specs.Str.{IsUtf8}
-use Rattle.mcy_base.specs.declared.file.SourceFile.{SourceFile}
-use Rattle.vlog_token.specs.declared.token.Token.{Token}
-use Rattle.vlog_token.specs.Places.{place_after}
+use Rattle.source_trees.proofs.Common.{◌≡◌, ◌≢◌, ◌⊎◌, ℕ, suc, ◌+◌, ◌<◌, List, ◌∷◌, ◌++◌, length, get_or, drop, map, append_assoc, [], inl, inr, refl, sym, ap, ◌∙◌, subst, drop_more, map_push, IsUtf8}
+use Rattle.source_trees.proofs.Common.{SourceFile, Token, place_after, IsRefused, start, Gives, ParseError, Module, AreParsed, IsFault, bare, token_of, ReadError, Parse, Memory, AreGiven, AreModules}
+use Rattle.source_trees.proofs.Common.{ComesTo, IsFileFault, IsNoText, IsTreeFault, IsUngiven, IsUnparsed, of_parse}
 use Rattle.vlog_token.specs.Sources.{AreTokensOf, SeenToken, seen}
-use Rattle.vlog_expand.specs.Files.{IsRefused, start}
-use Rattle.vlog_expand.specs.Uses.{Gives}
-use Rattle.vlog_expand.specs.declared.error.ParseError.{ParseError}
 use Rattle.vlog_expand.specs.declared.error.ParseError.TheVariants as p
-use Rattle.vlog_syntax.specs.declared.module.Module.{Module}
-use Rattle.vlog_parse.specs.Parsing.{AreParsed, IsFault}
-use Rattle.seen_tokens.specs.Bare.{bare, token_of}
-use Rattle.source_trees.specs.declared.error.ReadError.{ReadError}
-use Rattle.source_trees.specs.declared.error.ReadError.TheVariants.{Parse, Memory}
-use Rattle.source_trees.specs.Files.{AreGiven, AreModules, ComesTo}
-use Rattle.source_trees.specs.Faults.{IsFileFault, IsNoText, IsTextFault, IsTreeFault, IsUngiven, IsUnparsed, of_parse}
 
 -- what is left of a list from a place on begins with what stands there
 pub drop_read : {X : Type 0} (xs : List X) (i : ℕ) (x : X) → i < length xs → x ≡ get_or xs i x → drop i xs ≡ x ∷ drop (i + 1) xs
@@ -27,9 +14,6 @@ pub map_joined : {X Y : Type 0} (f : X → Y) (xs : List X) (x : X) (ys : List Y
 map_joined f xs x ys = ap (λ l. l ++ ys) (map_push f xs x) ∙ append_assoc (map f xs) (f x ∷ []) ys
 
 -- texts
-
-pub text_fault_here : (number : ℕ) (files more : List SourceFile) (file : SourceFile) (e : ReadError) → files ≡ file ∷ more → IsTextFault number file.bytes e → IsNoText number files e
-text_fault_here number files more file e is fault = subst (λ (fs : List SourceFile). IsNoText number fs e) (sym is) (inl fault)
 
 pub text_fault_later : (number : ℕ) (files more : List SourceFile) (file : SourceFile) (e : ReadError) → files ≡ file ∷ more → IsUtf8 file.bytes → IsNoText (number + 1) more e → IsNoText number files e
 text_fault_later number files more file e is text fault = subst (λ (fs : List SourceFile). IsNoText number fs e) (sym is) (inr (text, fault))

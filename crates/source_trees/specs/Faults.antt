@@ -17,15 +17,6 @@ use Rattle.source_trees.specs.declared.error.ReadError.{ReadError}
 use Rattle.source_trees.specs.declared.error.ReadError.TheVariants.{NotUtf8, Token as TokenFault, Parse, Memory}
 use Rattle.source_trees.specs.Files.{max_tokens, AreGiven, ComesTo}
 
--- an error as one of reading: want of memory is the same in all
-abbrev pub of_token : TokenError → ReadError
-of_token t.Memory = Memory
-of_token e = TokenFault e
-
-abbrev pub of_parse : ParseError → ReadError
-of_parse p.Memory = Memory
-of_parse e = Parse e
-
 -- the bytes are no UTF-8 behind so many
 abbrev pub IsTextFault : ℕ → List ℕ → ReadError → Type 0
 IsTextFault number bytes e = (len : ℕ) × IsValidUpTo bytes len × (e ≡ NotUtf8 number len)
@@ -70,3 +61,14 @@ IsUnread files e =
     ⊎ (IsNoText 0 files e
     ⊎ ((All (λ file. IsUtf8 file.bytes) files × IsUngiven 0 files max_tokens e)
     ⊎ ((given : List (List Token)) × AreTokens files given × IsUnparsed 0 files given e)))
+
+-- For proofs alone.
+
+-- an error as one of reading: want of memory is the same in all
+abbrev pub of_token : TokenError → ReadError
+of_token t.Memory = Memory
+of_token e = TokenFault e
+
+abbrev pub of_parse : ParseError → ReadError
+of_parse p.Memory = Memory
+of_parse e = Parse e

@@ -9,7 +9,7 @@ use Rattle.vlog_token.specs.Sources.{AreTokensOf, SeenToken}
 use Rattle.vlog_expand.specs.Uses.{Outcome, Gives}
 use Rattle.vlog_expand.specs.Files.{Comes, start}
 use Rattle.vlog_syntax.specs.declared.module.Module.{Module}
-use Rattle.vlog_parse.specs.Parsing.{AreParsed}
+use Rattle.vlog_parse.specs.Parsing.{AreMeant, AreParsed}
 use Rattle.seen_tokens.specs.Bare.{token_of}
 
 -- how many tokens and uses of macros all files together may have (docs/PROFILE.md)
@@ -34,6 +34,18 @@ pub record GivesFirst (number : ℕ) (bytes : List ℕ) (limit : ℕ) (given : L
 abbrev pub AreGiven : ℕ → List SourceFile → ℕ → List (List Token) → Type 0
 AreGiven number [] limit given = given ≡ []
 AreGiven number (file ∷ more) limit given = (first : GivesFirst number file.bytes limit given) × AreGiven (number + 1) more first.left first.others
+
+-- These modules are what the tokens of the files mean, one file after the other.
+abbrev pub AllMeant : List (List Token) → List Module → Type 0
+AllMeant [] ms = ms ≡ []
+AllMeant (tokens ∷ more) ms = (first : List Module) × (others : List Module) × AreMeant tokens first × AllMeant more others × (ms ≡ first ++ others)
+
+-- These modules are what the files mean, whatever is refused besides.
+pub record AreMeantBy (files : List SourceFile) (ms : List Module) : Type 0 where
+  pub texts : All (λ file. IsUtf8 file.bytes) files
+  pub given : List (List Token)
+  pub gives : AreGiven 0 files max_tokens given
+  pub modules : AllMeant given ms
 
 -- The tokens of each file are modules, and these are all of them in order.
 abbrev pub AreModules : List (List Token) → List Module → Type 0

@@ -3,7 +3,7 @@ ghost use Rattle.std.specs.Prelude.{◌≡◌, ◌≢◌, ◌<◌, ◌≤◌, �
 ghost use Rattle.mcy_base.specs.declared.file.SourceFile.{SourceFile as File};
 ghost use Rattle.vlog_syntax.specs.declared.module.Module.{Module as Tree};
 ghost use Rattle.vlog_syntax.specs.Nesting.{module_nest};
-ghost use Rattle.source_trees.specs.Files.{AreRead};
+ghost use Rattle.source_trees.specs.Files.{AreMeantBy, AreRead};
 ghost use Rattle.source_trees.specs.Faults.{IsUnread};
 ghost use Rattle.source_trees.specs.declared.error.ReadError.{ReadError as Error};
 ghost use Rattle.source_trees.specs.declared.error.ReadError.TheVariants.{Memory};
@@ -33,10 +33,11 @@ pub fn read_modules(alloc: Global, files: &[SourceFile]) -> Result<Vec<Module>, 
     parse_files(alloc, files, &given)
 }
 
-/// Files have one answer: one list of modules or one fault, and never both. So each fault comes just where
-/// `read_modules` says.
+/// Files have one answer: one list of modules, which is what they mean, or one fault, and never both. So each fault comes
+/// just where `read_modules` says.
 pub fn one_answer()
-    ensures modules { (files : List File) (ms ns : List Tree) → AreRead files ms → AreRead files ns → ms ≡ ns }
+    ensures meant { (files : List File) (ms : List Tree) → AreRead files ms → AreMeantBy files ms }
+    ensures modules { (files : List File) (ms ns : List Tree) → AreMeantBy files ms → AreMeantBy files ns → ms ≡ ns }
     ensures either { (files : List File) (ms : List Tree) (e : Error) → AreRead files ms → IsUnread files e → e ≡ Memory }
     ensures faults { (files : List File) (x y : Error) → IsUnread files x → IsUnread files y → x ≢ Memory → y ≢ Memory → x ≡ y }
 {}

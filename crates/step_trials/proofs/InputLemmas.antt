@@ -1,18 +1,9 @@
 -- The free bits of a netlist, laid and read as a number.
-use Rattle.std.proofs.Common.{suc, ◌≡◌, ℕ, ◌+◌, ◌*◌, ◌/◌, ◌%◌, ◌<◌, ◌^◌, Bool, List, [], ◌∷◌, ◌++◌, length, nat_eq, refl, sym, ◌∙◌, ap, subst, arith}
+use Rattle.step_trials.proofs.Common.{suc, ◌≡◌, ℕ, ◌+◌, ◌*◌, ◌/◌, ◌%◌, ◌<◌, ◌^◌, Bool, List, [], ◌∷◌, ◌++◌, length, nat_eq, refl, sym, ◌∙◌, ap, subst, arith, mod-pow-add, pow_pos, map-append}
+use Rattle.step_trials.proofs.Common.{append-nil, append_assoc, Bit, Fixed, Net, RawNetlist, number, Nets, bit_value, values, bits_at, q_bits, port_numbers, with_net, laid, laid_all, FitPorts}
+use Rattle.step_trials.proofs.Common.{length-values, number-fits, joined, free_list, parts, inputs_of, state_of}
 use Rattle.std.proofs.Math.Nat.{mod-lt, mod-eq_of_lt, div-eq_of_lt, div-div-eq-div-mul, add-mul-mod_self_left, add-mul-div_left, pow-succ'}
-use Rattle.std.proofs.lemmas.Nat.{mod-pow-add, pow_pos}
-use Rattle.std.proofs.lemmas.List.{map-append, append-nil, append_assoc}
-use Rattle.netlist_core.specs.declared.bit.Bit.{Bit}
-use Rattle.netlist_core.specs.declared.bit.Bit.TheVariants.{Fixed, Net}
-use Rattle.netlist_core.specs.declared.raw.RawNetlist.{RawNetlist}
-use Rattle.netlist_core.specs.Numbers.{number}
-use Rattle.netlist_core.specs.Runs.{Nets, bit_value, values, bits_at, q_bits, port_numbers}
-use Rattle.netlist_core.specs.Settled.{with_net, laid, laid_all}
-use Rattle.netlist_core.specs.Solutions.{FitPorts}
-use Rattle.netlist_core.proofs.Settles.{length-values, number-fits}
 use Rattle.cell_meaning.proofs.Parts.{number-append}
-use Rattle.step_trials.specs.Inputs.{joined, free_list, parts, inputs_of, state_of}
 
 -- Laying a number.
 

@@ -1,3 +1,4 @@
+mod Common
 pub mod CellPorts
 pub mod TableLemmas
 pub mod InputLemmas

@@ -1,11 +1,5 @@
 -- The netlist of a mutant steps as its design does exactly where the mutant at the site does.
-use Rattle.std.proofs.Common.{◌≡◌, [], ◌∷◌, sym, ◌∙◌}
-use Rattle.netlist_core.specs.declared.raw.RawNetlist.{RawNetlist}
-use Rattle.netlist_core.specs.Runs.{Nets, plain, shown}
-use Rattle.mutation_sites.specs.declared.site.Site.{Site}
-use Rattle.mutation_sites.specs.Mutants.{sight_at, with_mutated, RunsAlike, HasEachRun}
-use Rattle.step_trials.specs.Equal.{design, mutant, OneStepEqual}
-use Rattle.step_trials.specs.EqualLaws.{MutantsAreNetlists}
+use Rattle.step_trials.proofs.Common.{◌≡◌, [], ◌∷◌, sym, ◌∙◌, RawNetlist, Nets, plain, shown, Site, sight_at, with_mutated, RunsAlike, HasEachRun, design, mutant, OneStepEqual, MutantsAreNetlists}
 
 -- a step of the mutant at the site is one of its netlist
 netlist-to-mutant : (netlist mutated : RawNetlist) (site : Site) → HasEachRun netlist mutated site → OneStepEqual (design netlist) (design mutated) → OneStepEqual (design netlist) (mutant netlist site)

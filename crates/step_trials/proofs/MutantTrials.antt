@@ -1,17 +1,8 @@
 -- The netlist of a mutant gives what the design's readers see with the mutation.
-use Rattle.std.proofs.Common.{◌≡◌, ℕ, ◌/◌, ◌<◌, ◌^◌, List, [], ◌∷◌, ◌++◌, length, sym, ◌∙◌, ap, subst, arith}
-use Rattle.netlist_core.specs.declared.bit.Bit.{Bit}
+use Rattle.step_trials.proofs.Common.{◌≡◌, ℕ, ◌/◌, ◌<◌, ◌^◌, List, [], ◌∷◌, ◌++◌, length, sym, ◌∙◌, ap, subst, arith, Bit, RawNetlist, Nets, plain, bits_at, q_bits, Holds, shown, Plan, IsSound}
+use Rattle.step_trials.proofs.Common.{all_zero, OrderSettles, OneAnswerBySight, Site, sight_at, with_mutated, RunsAlike, HasEachRun, HasOneMore, design, mutant, OneStepEqual, joined, free_list, parts}
+use Rattle.step_trials.proofs.Common.{inputs_of, state_of, HoldsAt, GivesAt, GivesAll}
 use Rattle.netlist_core.specs.declared.port.Port as port
-use Rattle.netlist_core.specs.declared.raw.RawNetlist.{RawNetlist}
-use Rattle.netlist_core.specs.Runs.{Nets, plain, bits_at, q_bits, Holds, shown}
-use Rattle.netlist_core.specs.Checked.{Plan, IsSound}
-use Rattle.netlist_core.specs.Settled.{all_zero}
-use Rattle.netlist_core.specs.Solutions.{OrderSettles, OneAnswerBySight}
-use Rattle.mutation_sites.specs.declared.site.Site.{Site}
-use Rattle.mutation_sites.specs.Mutants.{sight_at, with_mutated, RunsAlike, HasEachRun, HasOneMore}
-use Rattle.step_trials.specs.Equal.{design, mutant, OneStepEqual}
-use Rattle.step_trials.specs.Inputs.{joined, free_list, parts, inputs_of, state_of}
-use Rattle.step_trials.specs.Trials.{HoldsAt, GivesAt, GivesAll}
 use Rattle.step_trials.proofs.Settles.{computed, computed-holds}
 use Rattle.step_trials.proofs.TrialLemmas.{trials-equal, given-alike, alike-given}
 

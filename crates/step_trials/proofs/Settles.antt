@@ -1,15 +1,7 @@
 -- The nets of a cycle, laid and computed in the order of the cells.
-use Rattle.std.proofs.Common.{◌≡◌, ℕ, ◌+◌, ◌≤◌, List, [], ◌∷◌, length, refl, sym, ap, subst, arith}
-use Rattle.netlist_core.specs.declared.port.Register.{Register}
-use Rattle.netlist_core.specs.Numbers.{number}
-use Rattle.netlist_core.specs.Runs.{Nets, values, plain, bits_at, q_bits, d_bits, port_numbers, taken}
-use Rattle.netlist_core.specs.Checked.{AllWide, AllRegistersFit, Plan, IsSound}
-use Rattle.netlist_core.specs.Settled.{laid, after_order}
-use Rattle.netlist_core.specs.Solutions.{settled, OrderSettles, OneAnswerBySight}
-use Rattle.netlist_core.proofs.Settles.{plain-causal}
-use Rattle.step_trials.specs.Equal.{design}
-use Rattle.step_trials.specs.Inputs.{free_list, inputs_of, state_of}
-use Rattle.step_trials.specs.Trials.{HoldsAt, given, GivesAt}
+use Rattle.step_trials.proofs.Common.{◌≡◌, ℕ, ◌+◌, ◌≤◌, List, [], ◌∷◌, length, refl, sym, ap, subst, arith, Register, number, Nets, values, plain, bits_at, q_bits, d_bits, port_numbers, taken}
+use Rattle.step_trials.proofs.Common.{AllWide, AllRegistersFit, Plan, IsSound, laid, after_order, settled, OrderSettles, OneAnswerBySight, plain-causal, design, free_list, inputs_of, state_of}
+use Rattle.step_trials.proofs.Common.{HoldsAt, given, GivesAt}
 use Rattle.step_trials.proofs.InputLemmas.{laid-free, parts-fit}
 
 -- what registers take is what stands at their D's

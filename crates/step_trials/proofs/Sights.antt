@@ -2,29 +2,17 @@
 --
 -- Where a reader alone sees the mutated bit, it stands among its own bits. Where all readers of a net see it, the bit and its
 -- control bit are driven together with that net.
-use Rattle.std.proofs.Common.{◌≡◌, ℕ, zero, suc, ◌+◌, ◌≤◌, Bool, true, false, List, [], ◌∷◌, ◌++◌, map, length, get_or, set, slice_get, Option, None, Some, nat_eq, refl, sym, ap, subst, ◌∙◌, inl, inr, arith, if◌then◌else◌}
-use Rattle.std.specs.Prelude.{◌&&◌}
+use Rattle.step_trials.proofs.Common.{◌≡◌, ℕ, zero, suc, ◌+◌, ◌≤◌, Bool, true, false, List, [], ◌∷◌, ◌++◌, map, length, get_or, set, slice_get, Option, None, Some, nat_eq, refl, sym, ap, subst, ◌∙◌}
+use Rattle.step_trials.proofs.Common.{inl, inr, arith, if◌then◌else◌, ◌&&◌, length-set, Bit, Fixed, Net, Gate, Flop, RawNetlist, number, cell_value, Nets, Reader, Next, Outputs, Sight, values}
+use Rattle.step_trials.proofs.Common.{bits_at, q_bits, input_ports, output_port, ports_seen, Holds, shown, taken, with_net, times, y_bits, driving, AgreeAround, IsCausal, length-values, values-agree}
+use Rattle.step_trials.proofs.Common.{Site, register_port, port_at, mutated_at, readers_of_bit, readers_at, change_of, seen, mutated_value, sight_at}
 use Rattle.std.specs.List.{Contains}
 use Rattle.std.proofs.lemmas.Bool.Decides.{eqb_tells}
-use Rattle.std.proofs.lemmas.List.{length-set}
 use Rattle.std.proofs.lemmas.List.Elements.{Contains-append_left, Contains-append_right}
-use Rattle.netlist_core.specs.declared.bit.Bit.{Bit}
-use Rattle.netlist_core.specs.declared.bit.Bit.TheVariants.{Fixed, Net}
-use Rattle.netlist_core.specs.declared.cell.Cell.{Cell as Gate}
-use Rattle.netlist_core.specs.declared.port.Register.{Register as Flop}
-use Rattle.netlist_core.specs.declared.raw.RawNetlist.{RawNetlist}
-use Rattle.netlist_core.specs.Numbers.{number}
-use Rattle.netlist_core.specs.Cells.{cell_value}
-use Rattle.netlist_core.specs.Runs.{Nets, Reader, Port, Next, Outputs, Sight, values, bits_at, q_bits, input_ports, output_port, ports_seen, Holds, shown, taken}
-use Rattle.netlist_core.specs.Settled.{with_net}
-use Rattle.netlist_core.specs.Drivers.{times, y_bits}
+use Rattle.netlist_core.specs.Runs.{Port}
 use Rattle.netlist_core.specs.Orders.{ports_of}
-use Rattle.netlist_core.specs.Solutions.{driving, AgreeAround, IsCausal}
-use Rattle.netlist_core.proofs.Settles.{length-values, values-agree}
 use Rattle.mutation_sites.specs.declared.site.Place.{Place}
 use Rattle.mutation_sites.specs.declared.site.Place.TheVariants.{Cell, Register}
-use Rattle.mutation_sites.specs.declared.site.Site.{Site}
-use Rattle.mutation_sites.specs.Mutants.{register_port, port_at, mutated_at, readers_of_bit, readers_at, change_of, seen, mutated_value, sight_at}
 
 -- Who sees the mutated bit: all readers of a net, or one reader alone.
 

@@ -1,13 +1,6 @@
 -- Each cycle has exactly one solution.
-use Rattle.std.proofs.Common.{ℕ, List, sym, ◌∙◌}
-use Rattle.netlist_core.specs.declared.raw.RawNetlist.{RawNetlist}
-use Rattle.netlist_core.specs.Runs.{Nets, Sight, plain}
-use Rattle.netlist_core.specs.Checked.{Plan, IsSound}
-use Rattle.netlist_core.specs.Settled.{all_zero}
-use Rattle.netlist_core.specs.Solutions.{FitsInputs, FitsRegisters, IsCausal, settled, OrderSettles, OneAnswerBySight}
-use Rattle.netlist_core.proofs.Settles.{plain-causal}
-use Rattle.step_trials.specs.Equal.{HasOneSolution}
-use Rattle.step_trials.specs.EqualLaws.{DesignsHaveOneSolution, MutantsHaveOneSolution}
+use Rattle.step_trials.proofs.Common.{ℕ, List, sym, ◌∙◌, RawNetlist, Nets, Sight, plain, Plan, IsSound, all_zero, FitsInputs, FitsRegisters, IsCausal, settled, OrderSettles, OneAnswerBySight}
+use Rattle.step_trials.proofs.Common.{plain-causal, HasOneSolution, DesignsHaveOneSolution, MutantsHaveOneSolution}
 use Rattle.step_trials.proofs.Sights.{near, near-causal, next-near, shown-near, holds-near, near-holds}
 
 has_one_solution : OrderSettles → OneAnswerBySight → (plan : Plan) → IsSound plan → (sight : Nets → Sight) → IsCausal plan.raw sight → (inputs state : List ℕ) → FitsInputs plan.raw inputs → FitsRegisters plan.raw state → HasOneSolution (record { netlist = plan.raw; sight = sight }) inputs state

@@ -1,23 +1,12 @@
 -- A table of values as a function of the net.
-use Rattle.std.proofs.Common.{◌≡◌, ℕ, ◌+◌, ◌*◌, ◌-◌, ◌/◌, ◌%◌, ◌<◌, ◌≤◌, ◌^◌, Bool, true, false, List, [], ◌∷◌, ◌++◌, length, map, take, drop, get_or, slice_get, Option, Some, refl, sym, subst, inl, inr, arith}
-use Rattle.std.proofs.lemmas.Bool.Decides.{eqb_tells}
-use Rattle.std.proofs.lemmas.List.{take_all}
+use Rattle.step_trials.proofs.Common.{◌≡◌, ℕ, ◌+◌, ◌*◌, ◌-◌, ◌/◌, ◌%◌, ◌<◌, ◌≤◌, ◌^◌, Bool, true, false, List, [], ◌∷◌, ◌++◌, length, map, take, drop, get_or, Option, Some, refl, subst, arith}
+use Rattle.step_trials.proofs.Common.{take_all, Bit, Fixed, Net, RawNetlist, digit, number, low_bits, Nets, bit_value, values, bits_at, q_bits, ports_seen, plain, times, times_at, Plan, IsSound}
+use Rattle.step_trials.proofs.Common.{bits-below, MatchOption, IsSome, joined, free_list}
 use Rattle.std.proofs.Math.Nat.{pow-le-pow_right}
-use Rattle.netlist_core.specs.declared.bit.Bit.{Bit}
-use Rattle.netlist_core.specs.declared.bit.Bit.TheVariants.{Fixed, Net}
-use Rattle.netlist_core.specs.declared.cell.Cell.{Cell}
-use Rattle.netlist_core.specs.declared.raw.RawNetlist.{RawNetlist}
-use Rattle.netlist_core.specs.Numbers.{digit, number, low_bits}
-use Rattle.netlist_core.specs.Runs.{Nets, bit_value, values, bits_at, q_bits, output_port, ports_seen, plain}
-use Rattle.netlist_core.specs.Drivers.{times, times_at}
-use Rattle.netlist_core.specs.Orders.{ports_of}
-use Rattle.netlist_core.specs.Checked.{Plan, IsSound}
-use Rattle.netlist_core.proofs.Owners.{y-one}
-use Rattle.std.specs.Prelude.{MatchOption, IsSome, None}
+use Rattle.netlist_core.specs.Below.{AllBelow}
+use Rattle.std.specs.Prelude.{None}
 use Rattle.mcy_base.specs.declared.word.Word.{Word}
 use Rattle.mcy_base.specs.Words.{IsWord}
-use Rattle.step_trials.specs.Inputs.{joined, free_list}
-use Rattle.step_trials.specs.Tables.{AllBelow}
 
 -- twice a number of fewer than 128 bits fits 128 bits
 pub small : (r k : ℕ) → r < 2 ^ k → k < 128 → 1 + 2 * r < 2 ^ 128
@@ -48,19 +37,6 @@ bits-number (false ∷ more) =
 
 -- Bits that are driven are in the table.
 
-AllBelow-nets : (limit : ℕ) (bits : List Bit) → ((n : ℕ) → 1 ≤ times n bits → n < limit) → AllBelow limit bits
-AllBelow-nets limit [] h = tt
-AllBelow-nets limit (Fixed b ∷ more) h = AllBelow-nets limit more h
-AllBelow-nets limit (Net n ∷ more) h = (
-  elim (eqb_tells n n) [ inl same ↦ (let once : times n (Net n ∷ more) ≡ 1 + times n more = rw same.0 refl in h n (omega (arith, once))) | inr other ↦ absurd (other.1 refl) ],
-  AllBelow-nets limit more (λ m some. h m (omega (arith, some))),
-)
-
-pub output_below : (plan : Plan) → IsSound plan → (c : ℕ) (cell : Cell) → slice_get plan.raw.cells c ≡ Some cell → AllBelow plan.nets (output_port cell.ports)
-output_below plan sound c cell is = AllBelow-nets plan.nets (output_port cell.ports) (λ n some.
-    let here : 1 ≤ times n (output_port (ports_of (slice_get plan.raw.cells c))) = subst (λ (o : Option Cell). 1 ≤ times n (output_port (ports_of o))) (sym is) some in
-    sound.below n (omega (arith, here, y-one plan.raw.cells c n)))
-
 times-append : (n : ℕ) (xs ys : List Bit) → times n (xs ++ ys) ≡ times n xs + times n ys
 times-append n [] ys = omega arith
 times-append n (Fixed b ∷ xs) ys = times-append n xs ys
@@ -77,7 +53,7 @@ free-times n netlist =
     omega (arith, times-append n ins qs, times-joined n (bits_at netlist.inputs), times-joined n (q_bits netlist.registers))
 
 pub free_below : (plan : Plan) → IsSound plan → AllBelow plan.nets (free_list plan.raw)
-free_below plan sound = AllBelow-nets plan.nets (free_list plan.raw) (λ n some. sound.below n (omega (arith, some, free-times n plan.raw)))
+free_below plan sound = bits-below plan.nets (free_list plan.raw) (λ n some. sound.below n (omega (arith, some, free-times n plan.raw)))
 
 -- Words.
 

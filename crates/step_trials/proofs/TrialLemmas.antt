@@ -1,18 +1,9 @@
 -- Trying all numbers over the free bits decides one-step equality, and one-step equality lasts.
-use Rattle.std.proofs.Common.{◌≡◌, ◌⊎◌, ℕ, ◌+◌, ◌<◌, ◌^◌, List, [], ◌∷◌, ◌++◌, length, get_or, refl, sym, ◌∙◌, subst, inl, inr, arith}
+use Rattle.step_trials.proofs.Common.{◌≡◌, ◌⊎◌, ℕ, ◌+◌, ◌<◌, ◌^◌, List, [], ◌∷◌, ◌++◌, length, get_or, refl, sym, ◌∙◌, subst, inl, inr, arith, get_or_append_left, length-append, length-map}
+use Rattle.step_trials.proofs.Common.{RawNetlist, Bit, number, Nets, values, Sight, Outputs, plain, bits_at, Holds, shown, taken, IsRunBy, outputs_by, Plan, IsSound, all_zero, OrderSettles}
+use Rattle.step_trials.proofs.Common.{OneAnswerBySight, Machine, design, StepsAlike, OneStepEqual, EqualOnAllRuns, free_list, inputs_of, state_of, HoldsAt, given, EqualAt, GivesAt, GivesAll}
 use Rattle.std.proofs.lemmas.Bool.{cases_lt}
-use Rattle.std.proofs.lemmas.List.{get_or_append_left, length-append, length-map}
 use Rattle.std.proofs.Math.Seq.{get_or-append_seam}
-use Rattle.netlist_core.specs.declared.raw.RawNetlist.{RawNetlist}
-use Rattle.netlist_core.specs.declared.bit.Bit.{Bit}
-use Rattle.netlist_core.specs.Numbers.{number}
-use Rattle.netlist_core.specs.Runs.{Nets, values, Sight, Outputs, plain, bits_at, Holds, shown, taken, IsRunBy, outputs_by}
-use Rattle.netlist_core.specs.Checked.{Plan, IsSound}
-use Rattle.netlist_core.specs.Settled.{all_zero}
-use Rattle.netlist_core.specs.Solutions.{OrderSettles, OneAnswerBySight}
-use Rattle.step_trials.specs.Equal.{Machine, design, StepsAlike, OneStepEqual, EqualOnAllRuns}
-use Rattle.step_trials.specs.Inputs.{free_list, inputs_of, state_of}
-use Rattle.step_trials.specs.Trials.{HoldsAt, given, EqualAt, GivesAt, GivesAll}
 use Rattle.step_trials.proofs.InputLemmas.{free-tried, inputs-values, state-values}
 use Rattle.step_trials.proofs.Settles.{computed, computed-holds}
 

@@ -17,6 +17,8 @@ joined (bits ∷ more) = bits ++ joined more
 abbrev pub free_list : RawNetlist → List Bit
 free_list netlist = joined (bits_at netlist.inputs) ++ joined (q_bits netlist.registers)
 
+-- For proofs alone.
+
 -- a number over the bits of all ports, divided into the numbers of the ports
 abbrev pub parts : List (List Bit) → ℕ → List ℕ
 parts [] n = []

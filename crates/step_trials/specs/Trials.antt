@@ -4,6 +4,8 @@ use Rattle.netlist_core.specs.Runs.{Nets, Holds, shown, taken}
 use Rattle.step_trials.specs.Equal.{Machine, StepsAlike}
 use Rattle.step_trials.specs.Inputs.{inputs_of, state_of}
 
+-- For proofs alone.
+
 -- a cycle with the inputs and registers whose bits together are this number's
 abbrev pub HoldsAt : Machine → ℕ → Nets → Type 0
 HoldsAt a n x = Holds (a.sight x) x a.netlist (inputs_of a.netlist n) (state_of a.netlist n)

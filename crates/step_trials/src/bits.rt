@@ -4,7 +4,8 @@ ghost use Rattle.netlist_core.specs.Numbers.{number};
 ghost use Rattle.netlist_core.specs.Runs.{bit_value, values};
 ghost use Rattle.netlist_core.specs.Settled.{laid};
 ghost use Rattle.cell_meaning.specs.Words.{word_bits};
-ghost use Rattle.step_trials.specs.Tables.{nets_of, AllBelow, IsWide};
+ghost use Rattle.netlist_core.specs.Below.{AllBelow};
+ghost use Rattle.step_trials.specs.Tables.{nets_of, IsWide};
 
 use mcy_base::Word;
 use netlist_core::Bit;

@@ -5,12 +5,13 @@ ghost use Rattle.netlist_core.specs.Shapes.{HasShape};
 ghost use Rattle.netlist_core.specs.Checked.{AllWide};
 ghost use Rattle.netlist_core.specs.Settled.{number_at, after_cell, after_order};
 ghost use Rattle.cell_meaning.specs.Words.{FitWords, bits_of};
-ghost use Rattle.step_trials.specs.Tables.{nets_of, AllBelow, HasInputs};
+ghost use Rattle.netlist_core.specs.Below.{AllBelow};
+ghost use Rattle.step_trials.specs.Tables.{nets_of, HasInputs};
 
 use crate::bits::{lay, word_of};
 use cell_meaning::cell_value;
 use mcy_base::Word;
-use netlist_core::{Bit, BitList, Cell, Netlist};
+use netlist_core::{BitList, Cell, Netlist, output_port};
 
 /// The words at a cell's input ports, all ports but the last. Where there are fewer than three, the last one stands
 /// for the others.
@@ -40,17 +41,6 @@ fn input_words(table: &[bool], ports: &[BitList]) -> [Word; 3]
     }
 }
 
-/// The bits of Y, the last port.
-fn output(ports: &[BitList]) -> &[Bit]
-    ensures { result.now ≡ output_port ports.now }
-{
-    match ports {
-        [] => &[],
-        [y] => y.as_slice(),
-        [_, rest @ ..] => output(rest),
-    }
-}
-
 /// The value of a cell, whatever its number.
 fn compute(table: &[bool], cell: &Cell) -> u128
     requires shape { HasShape cell.now }
@@ -69,7 +59,7 @@ fn advance(table: &mut [bool], cell: &Cell)
     ensures { (c : ℕ) → nets_of table.new ≡ after_cell plain c (Some cell.now) (nets_of table.old) }
 {
     let value = compute(table, cell);
-    lay(table, output(cell.ports.as_slice()), value);
+    lay(table, output_port(cell.ports.as_slice()), value);
 }
 
 /// Gives the nets the values that they have in a cycle with the inputs that are laid.

@@ -5,6 +5,7 @@ use Rattle.std.specs.List.{onto_first, prefix_len}
 use Rattle.script_lines.specs.declared.keyword.Keyword.TheVariants as key
 use Rattle.script_lines.specs.declared.token.Token.{Token}
 use Rattle.script_lines.specs.declared.token.Token.TheVariants as token
+use Rattle.script_lines.specs.Parting.{front_len, is_symbol, open_behind}
 use Rattle.tag_lines.specs.declared.expr.Comparison.{Comparison}
 use Rattle.tag_lines.specs.declared.expr.Comparison.TheVariants as op
 use Rattle.tag_lines.specs.declared.expr.Expr.{Expr}
@@ -31,10 +32,6 @@ is_function name = bytes_eq name (codes "tag") || bytes_eq name (codes "result")
 
 -- Tokens.
 
-abbrev pub is_symbol : ℕ → Token → Bool
-is_symbol byte (token.Symbol other) = other == byte
-is_symbol byte other = false
-
 abbrev pub comparison_of : Token → Option Comparison
 comparison_of token.Equal = Some op.Equal
 comparison_of token.NotEqual = Some op.NotEqual
@@ -46,15 +43,6 @@ is_separator sep.And (token.Keyword key.And) = true
 is_separator sep.Comparison token.Equal = true
 is_separator sep.Comparison token.NotEqual = true
 is_separator separator other = false
-
--- how many parentheses (40, 41) are open behind a token
-abbrev pub open_behind : ℕ → Token → ℕ
-open_behind opened t = if is_symbol 40 t then opened + 1 else (if is_symbol 41 t then opened - 1 else opened)
-
--- how many tokens stand before the first separator outside parentheses, of which so many are open
-unfoldable pub front_len : Separator → ℕ → List Token → ℕ
-front_len separator opened [] = 0
-front_len separator opened (t ∷ more) = if opened == 0 && is_separator separator t then 0 else suc (front_len separator (open_behind opened t) more)
 
 -- the parts between the separators outside parentheses
 unfoldable pub parts_at : Separator → ℕ → List Token → List (List Token)
@@ -120,7 +108,7 @@ compared_at w inner n tokens = elim (slice_get tokens n) [
 
 -- one comparison at most: what stands on the sides of the first one holds no other
 unfoldable pub comparison : Words → Reader → List Token → Option Expr
-comparison w inner tokens = compared_at w inner (front_len sep.Comparison 0 tokens) tokens
+comparison w inner tokens = compared_at w inner (front_len (is_separator sep.Comparison) 0 tokens) tokens
 
 -- all parts, where each is an expression
 unfoldable pub all_of : Reader → List (List Token) → Option (List Expr)
@@ -136,7 +124,7 @@ joined sep.Comparison (Some operands) = None
 -- the operands between separators, or one operand where there is no separator
 unfoldable pub chain : Separator → Reader → List Token → Option Expr
 chain separator reader tokens =
-    if front_len separator 0 tokens == length tokens then reader tokens else
+    if front_len (is_separator separator) 0 tokens == length tokens then reader tokens else
     joined separator (all_of reader (parts_at separator 0 tokens))
 
 abbrev pub disjunction : Reader → Reader
@@ -160,6 +148,8 @@ operand w (suc room) = negation w (operand w room) (disjunction (operand w room)
 -- an expression
 unfoldable pub expression : Words → ℕ → Reader
 expression w room = disjunction (operand w room)
+
+-- For proofs alone.
 
 -- the readers inside one construct more, where so many may be open
 unfoldable pub deeper : Words → ℕ → Reader

@@ -8,7 +8,8 @@ use Rattle.tag_lines.specs.declared.expr.Expr.{Expr}
 use Rattle.tag_lines.specs.declared.head.Head.{Head}
 use Rattle.tag_lines.specs.declared.head.Head.TheVariants as head
 use Rattle.project_lines.specs.Paths.{with_name}
-use Rattle.tag_lines.specs.Grammar.{Reader, argument_of, before_symbol, is_function, is_symbol, place_of}
+use Rattle.script_lines.specs.Parting.{is_symbol}
+use Rattle.tag_lines.specs.Grammar.{Reader, argument_of, before_symbol, is_function, place_of}
 
 abbrev pub with_expr : (Expr → Head) → Option Expr → Option Head
 with_expr make None = None

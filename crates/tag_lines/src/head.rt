@@ -4,11 +4,10 @@ ghost use Rattle.tag_lines.specs.Grammar.{before_symbol, expression, known_words
 ghost use Rattle.tag_lines.specs.Lines.{assigned, head_of, is_colon, keyword_head, plain_head};
 
 use crate::expr::Expr;
-use crate::parting::is_symbol;
 use crate::reading::expression;
 use crate::words::{argument_of, is_function, is_last, place_in_names, place_in_texts};
 use mcy_base::{Bytes, Text};
-use script_lines::{Keyword, Token};
+use script_lines::{Keyword, Token, is_symbol};
 use std::alloc::{AllocError, Global};
 
 /// What a line says. A name or tag is told by its place among those of the script or project, or by how many these are where it is

@@ -6,10 +6,10 @@ ghost use Rattle.std.specs.Prelude.{◌≡◌, IfOk};
 ghost use Rattle.tag_lines.specs.Grammar.{all_of, atom, both, called, chain, comparison, deeper, expression, inner, joined, operand, part, parts_at, known_words, negated, negation};
 
 use crate::expr::{Comparison, Expr};
-use crate::parting::{Separator, before, behind, comparison_of, front_len, is_symbol};
+use crate::parting::{Separator, behind, comparison_of};
 use crate::words::{argument_of, is_last, place_in_texts, single};
 use mcy_base::{Bytes, Text};
-use script_lines::{Keyword, Token};
+use script_lines::{Keyword, Token, before, front_len, is_symbol};
 use std::alloc::{AllocError, Global};
 use tree_parts::{Boxed, Listed};
 

@@ -4,9 +4,8 @@ ghost use Rattle.project_lines.specs.Numbers.{value};
 ghost use Rattle.tag_lines.specs.Grammar.{argument_of, is_function, is_last, number_of, place_of, single};
 
 use crate::expr::Expr;
-use crate::parting::is_symbol;
 use mcy_base::{Bytes, Text};
-use script_lines::{Keyword, Token};
+use script_lines::{Keyword, Token, is_symbol};
 use std::alloc::{AllocError, Global};
 
 /// The least number that a script does not have.

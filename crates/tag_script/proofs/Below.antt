@@ -1,26 +1,15 @@
 -- A script that names only these tests asks for no other.
-use Rattle.std.proofs.Common.{◌≡◌, ℕ, ◌<◌, Bool, true, false, not, ◌==◌, ◌&&◌, List, [], ◌∷◌, Option, Some, None, Result, Ok, Err, map, sym, subst, arith, if◌then◌else◌}
-use Rattle.std.specs.Prelude.{⊤, filter, slice_index}
-use Rattle.std.proofs.lemmas.Bool.{ltb-true}
-use Rattle.tag_lines.specs.declared.expr.Expr.{Expr}
+use Rattle.tag_script.proofs.Common.{◌≡◌, ℕ, ◌<◌, Bool, true, false, not, ◌==◌, ◌&&◌, List, [], ◌∷◌, Option, Some, None, Result, Ok, Err, map, sym, subst, arith, if◌then◌else◌, ⊤, filter, slice_index}
+use Rattle.tag_script.proofs.Common.{ltb-true, Expr, Expr-F, roll-Expr, fold-roll-Expr, ind-Expr, map-Expr, Stop, Arm, Script, Statement, fold-roll-Arm, fold-roll-Statement, ind-Statement}
+use Rattle.tag_script.proofs.Common.{map-Statement, Choice, Course, Doing, Standing, Valuing, arm_step, choice, chosen, course_of, decided, decides, doing, ended, expr_step, failed, followed, in_turn}
+use Rattle.tag_script.proofs.Common.{reads, start, statement_step, value_of, NeedsBelow, all_true, arm_fits, expr_fits, fit_arm, fit_expr, fit_statement, script_fits, statement_fits, ask_told, heard}
+use Rattle.tag_script.proofs.Common.{on_word, word_by, word_read, Datum, is_true, number}
 use Rattle.tag_lines.specs.declared.expr.Expr.TheOpen as e
-use Rattle.tag_lines.specs.declared.expr.Expr.TheOpen.{Expr-F}
-use Rattle.tag_lines.specs.declared.expr.Expr.TheViews.{roll-Expr}
-use Rattle.tag_lines.specs.declared.expr.Expr.TheFolds.{fold-roll-Expr, ind-Expr, map-Expr}
-use Rattle.tag_script.specs.declared.evaluation.Stop.{Stop}
 use Rattle.tag_script.specs.declared.evaluation.Stop.TheVariants as stop
-use Rattle.tag_script.specs.declared.script.Arm.{Arm}
-use Rattle.tag_script.specs.declared.script.Script.{Script}
-use Rattle.tag_script.specs.declared.script.Statement.{Statement}
 use Rattle.tag_script.specs.declared.script.Statement.TheOpen as s
 use Rattle.tag_script.specs.declared.script.Statement.TheOpen.{Arm-F, Statement-F}
 use Rattle.tag_script.specs.declared.script.Statement.TheViews.{roll-Arm, roll-Statement}
-use Rattle.tag_script.specs.declared.script.Statement.TheFolds.{fold-roll-Arm, fold-roll-Statement, ind-Statement, map-Statement}
-use Rattle.tag_script.specs.Courses.{Choice, Course, Doing, Standing, Valuing, arm_step, choice, chosen, course_of, decided, decides, doing, ended, expr_step, failed, followed, in_turn, reads, start, statement_step, value_of}
-use Rattle.tag_script.specs.Fits.{NeedsBelow, all_true, arm_fits, expr_fits, fit_arm, fit_expr, fit_statement, script_fits, statement_fits}
-use Rattle.tag_script.specs.Hearing.{ask_told, heard, on_word, word_by, word_read}
 use Rattle.tag_script.specs.Outcomes.{Outcome, asking, is_expected, outcome_of, script_outcome, unexpected, word_at}
-use Rattle.tag_script.specs.Values.{Datum, is_true, number}
 use Rattle.tag_script.proofs.Truths.{left_true, right_true}
 
 -- a course reads only the words of these tests

@@ -1,17 +1,9 @@
 -- What is heard of a statement, by what is heard of its expression.
-use Rattle.std.proofs.Common.{◌≡◌, ℕ, Bool, true, false, List, Option, Ok, Err, map, sym, ap, ◌∙◌, if◌then◌else◌}
-use Rattle.std.specs.Prelude.{bit_or, slice_set}
-use Rattle.tag_lines.specs.declared.expr.Expr.{Expr}
-use Rattle.tag_script.specs.declared.evaluation.Stop.{Stop}
+use Rattle.tag_script.proofs.Common.{◌≡◌, ℕ, Bool, true, false, List, Option, Ok, Err, map, sym, ap, ◌∙◌, if◌then◌else◌, bit_or, slice_set, Expr, Stop, Arm, Statement, fold-roll-Statement, Choice}
+use Rattle.tag_script.proofs.Common.{Doing, Standing, arm_step, choice, chosen, doing, ended, failed, in_turn, statement_step, tag_bit, value_of, heard, Datum, is_true}
 use Rattle.tag_script.specs.declared.evaluation.Stop.TheVariants as stop
-use Rattle.tag_script.specs.declared.script.Arm.{Arm}
-use Rattle.tag_script.specs.declared.script.Statement.{Statement}
 use Rattle.tag_script.specs.declared.script.Statement.TheVariants as v
 use Rattle.tag_script.specs.declared.script.Statement.TheOpen as o
-use Rattle.tag_script.specs.declared.script.Statement.TheFolds.{fold-roll-Statement}
-use Rattle.tag_script.specs.Courses.{Choice, Doing, Standing, arm_step, choice, chosen, doing, ended, failed, in_turn, statement_step, tag_bit, value_of}
-use Rattle.tag_script.specs.Hearing.{heard}
-use Rattle.tag_script.specs.Values.{Datum, is_true}
 use Rattle.tag_script.proofs.Following.{ended_is, followed_err, followed_ok}
 
 module _ (expect : List ℕ) (results : List (Option ℕ)) (standing : Standing) (s : Statement) where

@@ -1,32 +1,18 @@
 -- What is read as a script names only the tests and tags that there are.
-use Rattle.std.proofs.Common.{◌≡◌, ℕ, zero, suc, Bool, true, false, not, ◌&&◌, List, [], ◌∷◌, ◌++◌, Option, Some, None, Result, Ok, Err, IfOk, map, length, refl, sym, ap, ◌∙◌, subst, if◌then◌else◌}
-use Rattle.std.specs.Prelude.{nat_lt}
-use Rattle.script_lines.specs.declared.row.Row.{Row}
+use Rattle.tag_script.proofs.Common.{◌≡◌, ℕ, zero, suc, Bool, true, false, not, ◌&&◌, List, [], ◌∷◌, ◌++◌, Option, Some, None, Result, Ok, Err, IfOk, map, length, refl, sym, ap, ◌∙◌, subst}
+use Rattle.tag_script.proofs.Common.{if◌then◌else◌, nat_lt, Row, Expr, Expr-F, roll-Expr, fold-roll-Expr, ind-Expr, map-Expr, Head, Known, Place, Block, Arm, Script, ScriptError, Statement}
+use Rattle.tag_script.proofs.Common.{fold-roll-Statement, fold_out-Arm, Project, Reads, excess, expr_fault, fitted, formed, is_indented_so, is_misplaced, is_past_limit, line, named, named_fault}
+use Rattle.tag_script.proofs.Common.{or_fault, worded, all_true, arm_fits, expr_fits, fit_arm, fit_expr, fit_statement, script_fits, statement_fits, and_from}
 use Rattle.script_lines.specs.declared.token.Token.{Token}
-use Rattle.tag_lines.specs.declared.expr.Expr.{Expr}
 use Rattle.tag_lines.specs.declared.expr.Expr.TheOpen as e
-use Rattle.tag_lines.specs.declared.expr.Expr.TheOpen.{Expr-F}
-use Rattle.tag_lines.specs.declared.expr.Expr.TheViews.{roll-Expr}
-use Rattle.tag_lines.specs.declared.expr.Expr.TheFolds.{fold-roll-Expr, ind-Expr, map-Expr}
-use Rattle.tag_lines.specs.declared.head.Head.{Head}
 use Rattle.tag_lines.specs.declared.head.Head.TheVariants as head
 use Rattle.tag_lines.specs.declared.uses.Uses.{Uses}
 use Rattle.tag_lines.specs.Uses.{all_uses, uses_of, uses_step}
-use Rattle.tag_script.specs.declared.checks.Known.{Known}
-use Rattle.tag_script.specs.declared.checks.Place.{Place}
-use Rattle.tag_script.specs.declared.draft.Block.{Block}
-use Rattle.tag_script.specs.declared.script.Arm.{Arm}
-use Rattle.tag_script.specs.declared.script.Script.{Script}
-use Rattle.tag_script.specs.declared.script.ScriptError.{ScriptError}
-use Rattle.tag_script.specs.declared.script.Statement.{Statement}
 use Rattle.tag_script.specs.declared.script.Statement.TheOpen as o
 use Rattle.tag_script.specs.declared.script.Statement.TheVariants as v
-use Rattle.tag_script.specs.declared.script.Statement.TheFolds.{fold-roll-Statement, fold_out-Arm}
 use Rattle.tag_script.specs.Blocks.{Part, Reader, and_then, arm_of, block_by, block_in, closed, inner_indent, is_open, joined, new_block, no_body, parts_of, with_part, with_parts}
-use Rattle.tag_script.specs.Checks.{Project, Reads, excess, expr_fault, fitted, formed, is_indented_so, is_misplaced, is_past_limit, line, named, named_fault, or_fault, worded}
-use Rattle.tag_script.specs.Fits.{all_true, arm_fits, expr_fits, fit_arm, fit_expr, fit_statement, script_fits, statement_fits}
 use Rattle.tag_script.specs.Reading.{nothing_known, script_by, script_in}
-use Rattle.tag_script.proofs.Truths.{append_true, both_true}
+use Rattle.tag_script.proofs.Truths.{append_true}
 
 -- The tests of an expression, whatever names are assigned.
 
@@ -99,11 +85,11 @@ or_fits : (p : Project) (said : Head) (f : Option ScriptError) → (is_none_faul
 or_fits p said None h = h refl
 or_fits p said (Some fault) h = tt
 
-if_fits : {A : Type 0} (P : A → Type 0) (b : Bool) (fault : ScriptError) (r : Result A ScriptError) → IfOk r P → IfOk (if b then Err fault else r) P
+pub if_fits : {A : Type 0} (P : A → Type 0) (b : Bool) (fault : ScriptError) (r : Result A ScriptError) → IfOk r P → IfOk (if b then Err fault else r) P
 if_fits P true fault r h = tt
 if_fits P false fault r h = h
 
-unless_fits : {A : Type 0} (P : A → Type 0) (b : Bool) (fault : ScriptError) (r : Result A ScriptError) → IfOk r P → IfOk (if b then r else Err fault) P
+pub unless_fits : {A : Type 0} (P : A → Type 0) (b : Bool) (fault : ScriptError) (r : Result A ScriptError) → IfOk r P → IfOk (if b then r else Err fault) P
 unless_fits P true fault r h = h
 unless_fits P false fault r h = tt
 
@@ -134,7 +120,7 @@ line_fits in_arms p place known row body = line_if p (is_indented_so place.inden
 
 -- Statements.
 
-and_fits : {A B : Type 0} (P : A → Type 0) (Q : B → Type 0) (r : Result A ScriptError) (next : A → Result B ScriptError) → IfOk r P → ((a : A) → P a → IfOk (next a) Q) → IfOk (and_then r next) Q
+pub and_fits : {A B : Type 0} (P : A → Type 0) (Q : B → Type 0) (r : Result A ScriptError) (next : A → Result B ScriptError) → IfOk r P → ((a : A) → P a → IfOk (next a) Q) → IfOk (and_then r next) Q
 and_fits P Q (Ok a) next h k = k a h
 and_fits P Q (Err fault) next h k = tt
 
@@ -174,10 +160,10 @@ module _ (p : Project) where
     pub arms : FitArms block.draft.arms
 
   one_fits : (x : Statement) → fits x ≡ true → Fit (x ∷ [])
-  one_fits x h = both_true (fits x) true h refl
+  one_fits x h = and_from (fits x) true h refl
 
   if_fit : (arms : List Arm) (other : List Statement) → FitArms arms → Fit other → Fit (v.If arms other ∷ [])
-  if_fit arms other h k = one_fits (v.If arms other) (if_is arms other ∙ both_true (all_true (map fits_arm arms)) (all_true (map fits other)) h k)
+  if_fit arms other h k = one_fits (v.If arms other) (if_is arms other ∙ and_from (all_true (map fits_arm arms)) (all_true (map fits other)) h k)
 
   closed_if : (done : List Statement) (whole arms : List Arm) → Fit done → FitArms whole → Fit (elim arms [ [] ↦ done | arm ∷ more ↦ done ++ v.If whole [] ∷ [] ])
   closed_if done whole [] h k = h
@@ -188,8 +174,8 @@ module _ (p : Project) where
 
   arm_fit : (condition : Expr) (inner : Block) → expr_fits (length p.tests) condition ≡ true → FitBlock inner → FitArms (arm_of condition inner ∷ [])
   arm_fit condition inner h k =
-      both_true (fits_arm (arm_of condition inner)) true
-      (arm_is (arm_of condition inner) ∙ both_true (expr_fits (length p.tests) condition) (all_true (map fits (closed inner.draft))) h (closed_fits inner k)) refl
+      and_from (fits_arm (arm_of condition inner)) true
+      (arm_is (arm_of condition inner) ∙ and_from (expr_fits (length p.tests) condition) (all_true (map fits (closed inner.draft))) h (closed_fits inner k)) refl
 
   joined_fits : (block : Block) (before : List ℕ) (number : ℕ) (said : Head) (inner : Block) → FitBlock block → Named p said → FitBlock inner → FitBlock (joined block.draft before number said inner)
   unfolding joined

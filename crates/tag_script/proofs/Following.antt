@@ -1,8 +1,5 @@
 -- What is heard of one course and another behind it.
-use Rattle.std.proofs.Common.{◌≡◌, ℕ, List, Option, Result, Ok, Err, refl, ap, ◌∙◌}
-use Rattle.tag_script.specs.declared.evaluation.Stop.{Stop}
-use Rattle.tag_script.specs.Courses.{Course, ended, failed, followed, reads}
-use Rattle.tag_script.specs.Hearing.{heard, on_word, word_read}
+use Rattle.tag_script.proofs.Common.{◌≡◌, ℕ, List, Option, Result, Ok, Err, refl, ap, ◌∙◌, Stop, Course, ended, failed, followed, reads, heard, on_word, word_read}
 
 abbrev then_heard : {A B : Type 0} → Result A Stop → (A → Result B Stop) → Result B Stop
 then_heard (Ok a) next = next a

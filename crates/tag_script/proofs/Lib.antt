@@ -1,3 +1,4 @@
+mod Common
 pub mod Below
 pub mod Done
 pub mod Fitting

@@ -1,15 +1,7 @@
 -- The lines of a block, one after the other.
-use Rattle.std.proofs.Common.{◌≡◌, ℕ, suc, ◌+◌, ◌-◌, ◌<◌, ◌≤◌, Bool, true, false, List, [], ◌∷◌, Result, Ok, Err, drop, get_or, length, take, refl, sym, ap, ◌∙◌, arith, if◌then◌else◌}
-use Rattle.std.specs.List.{prefix_len}
-use Rattle.std.proofs.lemmas.List.{take_all}
-use Rattle.script_lines.specs.declared.row.Row.{Row}
-use Rattle.tag_lines.specs.declared.head.Head.{Head}
-use Rattle.tag_script.specs.declared.checks.Known.{Known}
-use Rattle.tag_script.specs.declared.checks.Place.{Place}
-use Rattle.tag_script.specs.declared.draft.Block.{Block}
-use Rattle.tag_script.specs.declared.script.ScriptError.{ScriptError}
+use Rattle.tag_script.proofs.Common.{◌≡◌, ℕ, suc, ◌+◌, ◌-◌, ◌<◌, ◌≤◌, Bool, true, false, List, [], ◌∷◌, Result, Ok, Err, drop, get_or, length, take, refl, sym, ap, ◌∙◌, arith, if◌then◌else◌}
+use Rattle.tag_script.proofs.Common.{prefix_len, take_all, Row, Head, Known, Place, Block, ScriptError, Project, is_further, line, named}
 use Rattle.tag_script.specs.Blocks.{Part, Reader, and_then, block_by, block_in, body_in, body_len, inner_indent, is_open, joined, new_block, part_of, parts_behind, parts_of, with_part, with_parts}
-use Rattle.tag_script.specs.Checks.{Project, is_further, line, named}
 use Rattle.tag_script.proofs.Rooms.{block_is}
 
 -- Parts.

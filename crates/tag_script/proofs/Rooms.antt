@@ -1,9 +1,6 @@
 -- Blocks and bodies by their room.
-use Rattle.std.proofs.Common.{◌≡◌, ℕ, zero, suc, ◌-◌, ◌≤◌, List, refl, ap, arith}
-use Rattle.script_lines.specs.declared.row.Row.{Row}
-use Rattle.tag_script.specs.declared.checks.Known.{Known}
+use Rattle.tag_script.proofs.Common.{◌≡◌, ℕ, zero, suc, ◌-◌, ◌≤◌, List, refl, ap, arith, Row, Known, Project}
 use Rattle.tag_script.specs.Blocks.{block_by, block_in, body_in}
-use Rattle.tag_script.specs.Checks.{Project}
 
 pub block_is : (p : Project) (room indent : ℕ) (known : Known) (rows : List Row) → block_in p room indent known rows ≡ block_by p room (body_in p room) indent known rows
 unfolding block_in body_in

@@ -1,12 +1,9 @@
 -- What is heard by the words that there are is what the outcome by all words tells.
-use Rattle.std.proofs.Common.{◌≡◌, ℕ, Bool, true, false, not, ◌==◌, List, [], ◌∷◌, Option, Some, None, Result, Ok, Err, refl, sym, ap, ◌∙◌, if◌then◌else◌}
-use Rattle.std.specs.Prelude.{filter, find, is_none, slice_index}
+use Rattle.tag_script.proofs.Common.{◌≡◌, ℕ, Bool, true, false, not, ◌==◌, List, [], ◌∷◌, Option, Some, None, Result, Ok, Err, refl, sym, ap, ◌∙◌, if◌then◌else◌, filter, find, is_none, slice_index}
+use Rattle.tag_script.proofs.Common.{Stop, Course, ended, failed, reads, ask_told, heard, on_word, word_by, word_read}
 use Rattle.std.proofs.lemmas.Bool.Decides.{Decides-eqb}
 use Rattle.tag_script.specs.declared.answer.Ask.TheVariants as ask
-use Rattle.tag_script.specs.declared.evaluation.Stop.{Stop}
 use Rattle.tag_script.specs.declared.evaluation.Stop.TheVariants as stop
-use Rattle.tag_script.specs.Courses.{Course, ended, failed, reads}
-use Rattle.tag_script.specs.Hearing.{ask_told, heard, on_word, word_by, word_read}
 use Rattle.tag_script.specs.Outcomes.{AreAmong, End, Outcome, asking, first_told, is_expected, outcome_of, told, unexpected, word_at}
 
 abbrev is_missing : List (Option ℕ) → ℕ → Bool

@@ -1,14 +1,9 @@
 -- What is heard of an expression, by what is heard of its parts.
-use Rattle.std.proofs.Common.{◌≡◌, ℕ, not, List, Option, Ok, Err, sym, ap, ◌∙◌}
+use Rattle.tag_script.proofs.Common.{◌≡◌, ℕ, not, List, Option, Ok, Err, sym, ap, ◌∙◌, Expr, fold-roll-Expr, Stop, Valuing, ended, expr_step, followed, name_value, test_number, value_of, heard}
+use Rattle.tag_script.proofs.Common.{word_read, Datum, compared, is_true, number, text, truth, word_text}
 use Rattle.tag_lines.specs.declared.expr.Comparison.{Comparison}
-use Rattle.tag_lines.specs.declared.expr.Expr.{Expr}
 use Rattle.tag_lines.specs.declared.expr.Expr.TheVariants as v
 use Rattle.tag_lines.specs.declared.expr.Expr.TheOpen as o
-use Rattle.tag_lines.specs.declared.expr.Expr.TheFolds.{fold-roll-Expr}
-use Rattle.tag_script.specs.declared.evaluation.Stop.{Stop}
-use Rattle.tag_script.specs.Courses.{Valuing, ended, expr_step, followed, name_value, test_number, value_of}
-use Rattle.tag_script.specs.Hearing.{heard, word_read}
-use Rattle.tag_script.specs.Values.{Datum, compared, is_true, number, text, truth, word_text}
 use Rattle.tag_script.proofs.Following.{ended_is, followed_err, followed_ok, reads_err, reads_ok}
 
 module _ (expect : List ℕ) (results : List (Option ℕ)) (names : List Datum) (x : Expr) where

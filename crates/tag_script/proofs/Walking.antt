@@ -1,14 +1,6 @@
 -- What the loops of the evaluation hear, one element more at a time.
-use Rattle.std.proofs.Common.{◌≡◌, ℕ, ◌+◌, ◌<◌, Bool, List, ◌∷◌, Option, Ok, Err, map, drop, get_or, length, sym, ap, ◌∙◌, if◌then◌else◌}
-use Rattle.std.proofs.lemmas.List.{at_drop_more}
-use Rattle.tag_lines.specs.declared.expr.Expr.{Expr}
-use Rattle.tag_script.specs.declared.evaluation.Stop.{Stop}
-use Rattle.tag_script.specs.declared.script.Arm.{Arm}
-use Rattle.tag_script.specs.declared.script.Statement.{Statement}
-use Rattle.tag_script.specs.declared.script.Statement.TheFolds.{fold_out-Arm}
-use Rattle.tag_script.specs.Courses.{Choice, Doing, Standing, arm_step, choice, chosen, decided, decides, doing, ended, in_turn, statement_step, value_of}
-use Rattle.tag_script.specs.Hearing.{heard}
-use Rattle.tag_script.specs.Values.{Datum, is_true}
+use Rattle.tag_script.proofs.Common.{◌≡◌, ℕ, ◌+◌, ◌<◌, Bool, List, ◌∷◌, Option, Ok, Err, map, drop, get_or, length, sym, ap, ◌∙◌, if◌then◌else◌, at_drop_more, Expr, Stop, Arm, Statement, fold_out-Arm}
+use Rattle.tag_script.proofs.Common.{Choice, Doing, Standing, arm_step, choice, chosen, decided, decides, doing, ended, in_turn, statement_step, value_of, heard, Datum, is_true}
 use Rattle.tag_script.proofs.Following.{followed_err, followed_ok}
 
 module _ (expect : List ℕ) (results : List (Option ℕ)) where

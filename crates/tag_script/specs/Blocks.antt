@@ -157,6 +157,8 @@ unfoldable pub block_in : Project → ℕ → Reader
 block_in project zero = block_by project zero no_body
 block_in project (suc room) = block_by project (suc room) (block_in project room)
 
+-- For proofs alone.
+
 -- the bodies in such a block
 unfoldable pub body_in : Project → ℕ → Reader
 body_in project zero = no_body

@@ -21,9 +21,6 @@ pub record Project : Type 0 where
   pub tags : List (List ℕ)
   pub limit : Option ℕ
 
-abbrev pub project_of : Scope → Project
-project_of scope = record { tests = scope.tests.now; tags = scope.tags.now; limit = scope.limit }
-
 -- The reading is this one; want of memory may come anywhere.
 abbrev pub Reads : {A : Type 0} → Result A ScriptError → Result A ScriptError → Type 0
 Reads result reading = MatchResult result (λ x. reading ≡ Ok x) (λ e. e ≢ fault.Memory → reading ≡ Err e)
@@ -122,3 +119,8 @@ tokens_or_none row = elim row.tokens [ None ↦ [] | Some tokens ↦ tokens ]
 -- what is known with the names of a line
 unfoldable pub named : Known → Row → Known
 named known row = record { names = names_behind known.names (tokens_or_none row); assigned = known.assigned }
+
+-- For proofs alone.
+
+abbrev pub project_of : Scope → Project
+project_of scope = record { tests = scope.tests.now; tags = scope.tags.now; limit = scope.limit }

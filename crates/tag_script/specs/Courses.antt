@@ -107,9 +107,6 @@ arm_step arm = record { condition = value_of arm.condition; body = in_turn arm.b
 abbrev pub doing : Statement → Doing
 doing = fold-Statement Doing Choice statement_step arm_step
 
-abbrev pub choice : Arm → Choice
-choice = fold-Arm Doing Choice statement_step arm_step
-
 -- no name has a value, and no tag is set
 abbrev pub start : Standing
 start = record { names = replicate 32 (number 0); tags = 0 }
@@ -117,3 +114,8 @@ start = record { names = replicate 32 (number 0); tags = 0 }
 -- the course of a script, to its tags
 unfoldable pub course_of : Script → Course ℕ
 course_of script = followed (in_turn (map doing script.statements) start) (λ standing. ended standing.tags)
+
+-- For proofs alone.
+
+abbrev pub choice : Arm → Choice
+choice = fold-Arm Doing Choice statement_step arm_step

@@ -1,5 +1,6 @@
 -- Scripts that name only the tests and tags of a project, of which there are so many.
-use Rattle.std.specs.Prelude.{ℕ, ◌<◌, ⊤, Bool, true, ◌&&◌, List, [], ◌∷◌, map, nat_lt}
+use Rattle.std.specs.Prelude.{ℕ, ◌<◌, ⊤, Bool, true, ◌&&◌, map, nat_lt}
+pub use Rattle.tag_lines.specs.Truths.{all_true}
 use Rattle.tag_lines.specs.declared.expr.Expr.{Expr}
 use Rattle.tag_lines.specs.declared.expr.Expr.TheOpen as e
 use Rattle.tag_lines.specs.declared.expr.Expr.TheOpen.{Expr-F}
@@ -12,10 +13,6 @@ use Rattle.tag_script.specs.declared.script.Statement.{Statement}
 use Rattle.tag_script.specs.declared.script.Statement.TheOpen as s
 use Rattle.tag_script.specs.declared.script.Statement.TheOpen.{Arm-F, Statement-F}
 use Rattle.tag_script.specs.declared.script.Statement.TheFolds.{fold-Arm, fold-Statement}
-
-abbrev pub all_true : List Bool → Bool
-all_true [] = true
-all_true (b ∷ more) = b && all_true more
 
 abbrev pub fit_expr : ℕ → Expr-F Bool → Bool
 fit_expr tests (e.Number n) = true
@@ -43,9 +40,6 @@ fit_arm tests arm = expr_fits tests arm.condition && all_true arm.body
 abbrev pub statement_fits : ℕ → ℕ → Statement → Bool
 statement_fits tests tags = fold-Statement Bool Bool (fit_statement tests tags) (fit_arm tests)
 
-abbrev pub arm_fits : ℕ → ℕ → Arm → Bool
-arm_fits tests tags = fold-Arm Bool Bool (fit_statement tests tags) (fit_arm tests)
-
 -- a script names only these tests and tags
 abbrev pub script_fits : ℕ → ℕ → Script → Bool
 script_fits tests tags script = all_true (map (statement_fits tests tags) script.statements)
@@ -54,3 +48,8 @@ script_fits tests tags script = all_true (map (statement_fits tests tags) script
 abbrev pub NeedsBelow : ℕ → Ask → Type 0
 NeedsBelow tests (ask.Need test) = test < tests
 NeedsBelow tests other = ⊤
+
+-- For proofs alone.
+
+abbrev pub arm_fits : ℕ → ℕ → Arm → Bool
+arm_fits tests tags = fold-Arm Bool Bool (fit_statement tests tags) (fit_arm tests)

@@ -9,6 +9,8 @@ use Rattle.tag_script.specs.Courses.{Choice, Course, Doing, Standing, chosen, en
 use Rattle.tag_script.specs.Outcomes.{is_expected, word_at}
 use Rattle.tag_script.specs.Values.{datum_of}
 
+-- For proofs alone.
+
 abbrev pub word_by : List ℕ → ℕ → Option ℕ → Result ℕ Stop
 word_by expect test None = Err (stop.Need test)
 word_by expect test (Some word) = if is_expected expect test word then Ok word else Err (stop.Unexpected test)

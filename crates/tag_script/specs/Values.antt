@@ -9,11 +9,6 @@ pub data Datum : Type 0 where
   number : ℕ → Datum
   text : List ℕ → Datum
 
--- the value that the code holds
-abbrev pub datum_of : Value → Datum
-datum_of (v.Number n) = number n
-datum_of (v.Text t) = text t.now
-
 -- 0 and the empty text are false
 abbrev pub is_true : Datum → Bool
 is_true (number n) = not (n == 0)
@@ -39,3 +34,10 @@ word_text word =
     if word == 0 then codes "PASS" else
     (if word == 1 then codes "FAIL" else
     (if word == 2 then codes "HANG" else codes "UNKNOWN"))
+
+-- For proofs alone.
+
+-- the value that the code holds
+abbrev pub datum_of : Value → Datum
+datum_of (v.Number n) = number n
+datum_of (v.Text t) = text t.now

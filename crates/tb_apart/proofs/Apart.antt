@@ -1,33 +1,19 @@
 -- The nets of items without a fault, one item after the other.
-use Rattle.std.proofs.Common.{◌≡◌, ◌⊎◌, inl, inr, zero, suc, ℕ, ◌<◌, ◌≤◌, Bool, true, false, ◌||◌, List, [], ◌∷◌, ◌++◌, take, length, get_or, refl, sym, ap, ◌∙◌, subst, arith}
-use Rattle.std.specs.Prelude.{Option, Some, slice_get}
+use Rattle.tb_apart.proofs.Common.{◌≡◌, ◌⊎◌, inl, inr, zero, suc, ℕ, ◌<◌, ◌≤◌, Bool, true, false, ◌||◌, List, [], ◌∷◌, ◌++◌, take, length, get_or, refl, sym, ap, ◌∙◌, subst, arith, Option, Some}
+use Rattle.tb_apart.proofs.Common.{slice_get, append-nil, take_all, Span, Assignment, parts_of, AreSized, NetNode, left_writes, BenchFault, Unsupported, assign_faults, BenchItem, assignment_of}
+use Rattle.tb_apart.proofs.Common.{take_more, item_nodes, nodes_of, or_cases, or_left, or_right}
 use Rattle.std.proofs.lemmas.Grind.{flat_map-append}
-use Rattle.std.proofs.lemmas.List.{append-nil, take_all}
-use Rattle.mcy_base.specs.declared.span.Span.{Span}
-use Rattle.vlog_syntax.specs.declared.stmt.Assignment.{Assignment}
-use Rattle.vlog_meaning.specs.Scopes.{Names}
-use Rattle.vlog_effects.specs.LeftSides.{parts_of}
-use Rattle.elab_proc.specs.Refusals.{AreSized}
-use Rattle.tb_nets.specs.declared.node.NetNode.{NetNode}
 use Rattle.tb_nets.specs.declared.node.NetNode.TheVariants.{Assign, Design}
-use Rattle.tb_nets.specs.Lefts.{left_writes}
 use Rattle.tb_nets.specs.Nets.{Wiring, wiring, signal_bits, node_writes, writes_of, AreApart}
 use Rattle.vlog_syntax.specs.declared.feature.Feature.TheVariants.{Helper}
-use Rattle.tb_faults.specs.declared.fault.BenchFault.{BenchFault}
-use Rattle.tb_faults.specs.declared.fault.BenchFault.TheVariants.{Unsupported}
-use Rattle.tb_checks.specs.Nets.{assign_faults}
-use Rattle.tb_items.specs.declared.item.BenchItem.{BenchItem}
 use Rattle.tb_items.specs.declared.item.BenchItem.TheVariants as b
-use Rattle.tb_items.specs.Assignments.{assignment_of}
-use Rattle.tb_writers.specs.Writers.{Written, nothing, with_outputs, whole_signal, with_item, with_items, writer_faults}
+use Rattle.tb_writers.specs.Writers.{Written, nothing, with_outputs, whole_signal, writer_faults}
 use Rattle.tb_refusals.specs.Refusals.{Context, written, second, is_design, some_item, net_faults, own_item_faults, item_faults, AreFaultless}
-use Rattle.tb_refusals.proofs.Firsts.{take_more}
 use Rattle.tb_apart.specs.Laws.{NetsAreApart}
-use Rattle.tb_contents.specs.Nets.{item_nodes, nodes_of}
-use Rattle.tb_apart.proofs.Places.{either_true, first_or, second_or}
 use Rattle.tb_apart.proofs.Told.{AreTold, told_parts}
 use Rattle.tb_apart.proofs.Meeting.{item_keeps, net_clash, net_writes}
 use Rattle.tb_apart.proofs.Listed.{one_of, some_writes, apart_more}
+use Rattle.tb_refusals.proofs.Notes.{written_more}
 
 -- What stands of the nets of these items.
 record Standing (c : Context) (inputs : List ℕ) (before : List BenchItem) : Type 0 where
@@ -39,11 +25,7 @@ record Standing (c : Context) (inputs : List ℕ) (before : List BenchItem) : Ty
 
 -- One item more.
 
-written_more : (names : Names) (w : Written) (xs : List BenchItem) (y : BenchItem) → with_items names w (xs ++ y ∷ []) ≡ with_item names (with_items names w xs) y
-written_more names w [] y = refl
-written_more names w (x ∷ xs) y = written_more names (with_item names w x) xs y
-
-nodes_more : (before : List BenchItem) (x : BenchItem) → nodes_of (before ++ x ∷ []) ≡ nodes_of before ++ item_nodes x
+pub nodes_more : (before : List BenchItem) (x : BenchItem) → nodes_of (before ++ x ∷ []) ≡ nodes_of before ++ item_nodes x
 nodes_more before x = flat_map-append item_nodes before (x ∷ []) ∙ ap (λ (l : List NetNode). nodes_of before ++ l) (append-nil (item_nodes x))
 
 keeps : (c : Context) (before : List BenchItem) (x : BenchItem) (n i : ℕ) → (written c before).nets n i ≡ true → (written c (before ++ x ∷ [])).nets n i ≡ true
@@ -238,14 +220,14 @@ one_more c inputs before (b.Leaves port left) sized none s = assigned c inputs b
 
 outputs_keep : (w : Written) (ks : List ℕ) (n i : ℕ) → w.nets n i ≡ true → (with_outputs w ks).nets n i ≡ true
 outputs_keep w [] n i e = e
-outputs_keep w (k ∷ ks) n i e = outputs_keep (record w { nets = λ m j. w.nets m j || whole_signal k m j }) ks n i (first_or (w.nets n i) (whole_signal k n i) e)
+outputs_keep w (k ∷ ks) n i e = outputs_keep (record w { nets = λ m j. w.nets m j || whole_signal k m j }) ks n i (or_left (w.nets n i) (whole_signal k n i) e)
 
 outputs_written : (w : Written) (ks : List ℕ) (n i : ℕ) → signal_bits ks n i ≡ true → (with_outputs w ks).nets n i ≡ true
 outputs_written w [] n i e = absurd cc
-outputs_written w (k ∷ ks) n i e = go (either_true (whole_signal k n i) (signal_bits ks n i) e) (outputs_written (record w { nets = λ m j. w.nets m j || whole_signal k m j }) ks n i)
+outputs_written w (k ∷ ks) n i e = go (or_cases (whole_signal k n i) (signal_bits ks n i) e) (outputs_written (record w { nets = λ m j. w.nets m j || whole_signal k m j }) ks n i)
   where
     go : ((whole_signal k n i ≡ true) ⊎ (signal_bits ks n i ≡ true)) → (signal_bits ks n i ≡ true → (with_outputs (record w { nets = λ m j. w.nets m j || whole_signal k m j }) ks).nets n i ≡ true) → (with_outputs (record w { nets = λ m j. w.nets m j || whole_signal k m j }) ks).nets n i ≡ true
-    go (inl here) later = outputs_keep (record w { nets = λ m j. w.nets m j || whole_signal k m j }) ks n i (second_or (w.nets n i) (whole_signal k n i) here)
+    go (inl here) later = outputs_keep (record w { nets = λ m j. w.nets m j || whole_signal k m j }) ks n i (or_right (w.nets n i) (whole_signal k n i) here)
     go (inr more) later = later more
 
 none_yet : (c : Context) (inputs : List ℕ) → Standing c inputs []

@@ -1,16 +1,9 @@
 -- What items without a fault hold, each by itself.
-use Rattle.std.proofs.Common.{◌≡◌, zero, suc, ℕ, ◌<◌, ◌≤◌, List, [], ◌∷◌, take, length, get_or, sym, subst, arith}
-use Rattle.std.specs.List.{All}
-use Rattle.std.proofs.lemmas.List.{take_all}
+use Rattle.tb_apart.proofs.Common.{◌≡◌, zero, suc, ℕ, ◌<◌, ◌≤◌, List, [], ◌∷◌, take, length, get_or, sym, subst, arith, All, take_all, NetNode, TwoClocks, BenchItem, item_nodes, nodes_of, take_more}
 use Rattle.std.proofs.lemmas.List.Elements.{All-append, All-push}
-use Rattle.tb_nets.specs.declared.node.NetNode.{NetNode}
-use Rattle.tb_faults.specs.declared.fault.BenchFault.TheVariants.{TwoClocks}
-use Rattle.tb_items.specs.declared.item.BenchItem.{BenchItem}
 use Rattle.tb_items.specs.declared.item.BenchItem.TheVariants as b
 use Rattle.tb_writers.specs.Writers.{writer_faults}
-use Rattle.tb_contents.specs.Nets.{item_nodes, nodes_of}
 use Rattle.tb_refusals.specs.Refusals.{Context, written, second, some_item, is_generator, may_start, generator_faults, own_item_faults, item_faults, AreFaultless}
-use Rattle.tb_refusals.proofs.Firsts.{take_more}
 use Rattle.tb_apart.specs.Laws.{IsClean, NetsAreClean, IsCleanItem, ItemsAreClean}
 use Rattle.tb_apart.proofs.Apart.{left_nil, right_nil, within, get_itself}
 

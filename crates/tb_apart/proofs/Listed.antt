@@ -1,7 +1,5 @@
 -- A list of nodes, one more.
-use Rattle.std.proofs.Common.{◌≡◌, ◌⊎◌, inl, inr, zero, suc, ℕ, true, List, [], ◌∷◌, ◌++◌, length, refl, sym, ap, ◌∙◌, arith}
-use Rattle.std.specs.Prelude.{Option, Some, None, slice_get}
-use Rattle.tb_nets.specs.declared.node.NetNode.{NetNode}
+use Rattle.tb_apart.proofs.Common.{◌≡◌, ◌⊎◌, inl, inr, zero, suc, ℕ, true, List, [], ◌∷◌, ◌++◌, length, refl, sym, ap, ◌∙◌, arith, Option, Some, None, slice_get, NetNode}
 use Rattle.tb_nets.specs.Nets.{Wiring, node_writes, writes_of, AreApart}
 
 -- one of the list, or the new one

@@ -1,24 +1,14 @@
 -- What a net writes that has no fault was not written before, and is written then.
-use Rattle.std.proofs.Common.{◌≡◌, ◌⊎◌, inl, inr, ℕ, Bool, true, false, ◌||◌, List, [], ◌∷◌, ◌++◌, refl, sym, ap, ◌∙◌, subst}
-use Rattle.std.specs.Prelude.{Some, option_to_list}
-use Rattle.vlog_syntax.specs.declared.left_side.LeftSide.{LeftSide}
-use Rattle.vlog_syntax.specs.declared.stmt.Assignment.{Assignment}
-use Rattle.vlog_meaning.specs.Scopes.{Names}
-use Rattle.vlog_effects.specs.Latches.{part_covers, parts_cover}
-use Rattle.vlog_effects.specs.LeftSides.{Part, part_vector, parts_of}
-use Rattle.elab_proc.specs.Refusals.{AreSized}
-use Rattle.tb_nets.specs.Lefts.{part_opens, parts_open, left_writes}
-use Rattle.tb_faults.specs.declared.fault.BenchFault.{BenchFault}
-use Rattle.tb_items.specs.declared.item.BenchItem.{BenchItem}
+use Rattle.tb_apart.proofs.Common.{◌≡◌, ◌⊎◌, inl, inr, ℕ, Bool, true, false, ◌||◌, List, [], ◌∷◌, ◌++◌, refl, sym, ap, ◌∙◌, subst, Some, option_to_list, LeftSide, Assignment, Names, part_covers}
+use Rattle.tb_apart.proofs.Common.{parts_cover, Part, part_vector, parts_of, AreSized, part_opens, parts_open, left_writes, BenchFault, BenchItem, assignment_of, Net, Process, part_writes, meet_at}
+use Rattle.tb_apart.proofs.Common.{or_left, or_right}
 use Rattle.tb_items.specs.declared.item.BenchItem.TheVariants as b
-use Rattle.tb_items.specs.Assignments.{assignment_of}
 use Rattle.tb_writers.specs.declared.writers.Writer.{Writer}
-use Rattle.tb_writers.specs.declared.writers.Writer.TheVariants.{Net, Process}
 use Rattle.tb_writers.specs.Lefts.{lefts_in}
-use Rattle.tb_writers.specs.Writes.{part_writes, meet_at}
 use Rattle.tb_writers.specs.Writers.{Written, taken, with_part, with_parts, with_lefts, with_item, fault_where, part_faults, parts_faults, lefts_faults, writer_of, writer_faults}
-use Rattle.tb_apart.proofs.Places.{first_or, second_or, part_reaches, writes_within, meets}
+use Rattle.tb_apart.proofs.Places.{part_reaches, writes_within, meets}
 use Rattle.tb_apart.proofs.Told.{AreTold}
+use Rattle.std.proofs.lemmas.Option.{same_Some}
 
 -- Lists that are empty together.
 
@@ -44,7 +34,7 @@ first_or_more names p ps n i e = cross (part_covers names p (part_vector names p
 -- What is written stays written.
 
 part_keeps : (names : Names) (kind : Writer) (w : Written) (p : Part) (n i : ℕ) → w.nets n i ≡ true → (with_part names kind w p).nets n i ≡ true
-part_keeps names Net w p n i e = first_or (w.nets n i) (part_writes names Net p n i) e
+part_keeps names Net w p n i e = or_left (w.nets n i) (part_writes names Net p n i) e
 part_keeps names Process w p n i e = e
 
 parts_keep : (names : Names) (kind : Writer) (w : Written) (ps : List Part) (n i : ℕ) → w.nets n i ≡ true → (with_parts names kind w ps).nets n i ≡ true
@@ -75,7 +65,7 @@ parts_clash names w [] n i sized told none e f = absurd cc
 parts_clash names w (p ∷ ps) n i sized told none e f = go (first_or_more names p ps n i e) (parts_clash names (with_part names Net w p) ps n i sized told.1 (right_nil (part_faults names Net w p) (parts_faults names Net (with_part names Net w p) ps) none))
   where
     go : (((part_covers names p (part_vector names p) n i || part_opens names p n i) ≡ true) ⊎ (left_writes names ps n i ≡ true)) → (left_writes names ps n i ≡ true → (with_part names Net w p).nets n i ≡ true → ⊥) → ⊥
-    go (inl here) later = clash names w p n i sized (left_nil (part_faults names Net w p) (parts_faults names Net (with_part names Net w p) ps) none) (part_reaches names p n i told.0 here) (first_or (w.nets n i) (w.variables n i) f)
+    go (inl here) later = clash names w p n i sized (left_nil (part_faults names Net w p) (parts_faults names Net (with_part names Net w p) ps) none) (part_reaches names p n i told.0 here) (or_left (w.nets n i) (w.variables n i) f)
     go (inr more) later = later more (part_keeps names Net w p n i f)
 
 parts_write : (names : Names) (w : Written) (ps : List Part) (n i : ℕ) → AreTold names ps → left_writes names ps n i ≡ true → (with_parts names Net w ps).nets n i ≡ true
@@ -83,7 +73,7 @@ parts_write names w [] n i told e = absurd cc
 parts_write names w (p ∷ ps) n i told e = go (first_or_more names p ps n i e) (parts_write names (with_part names Net w p) ps n i told.1)
   where
     go : (((part_covers names p (part_vector names p) n i || part_opens names p n i) ≡ true) ⊎ (left_writes names ps n i ≡ true)) → (left_writes names ps n i ≡ true → (with_parts names Net (with_part names Net w p) ps).nets n i ≡ true) → (with_parts names Net (with_part names Net w p) ps).nets n i ≡ true
-    go (inl here) later = parts_keep names Net (with_part names Net w p) ps n i (second_or (w.nets n i) (part_writes names Net p n i) (part_reaches names p n i told.0 here))
+    go (inl here) later = parts_keep names Net (with_part names Net w p) ps n i (or_right (w.nets n i) (part_writes names Net p n i) (part_reaches names p n i told.0 here))
     go (inr more) later = later more
 
 -- Items that are assignments of nets.
@@ -92,11 +82,8 @@ pub record IsNet (x : BenchItem) (a : Assignment) : Type 0 where
   pub kind : writer_of x ≡ Net
   pub lefts : lefts_in x ≡ a.left ∷ []
 
-some_same : {A : Type 0} (a b : A) → Some a ≡ Some b → a ≡ b
-some_same a b e = cc
-
 alone : (x y : Assignment) → Some x ≡ Some y → x.left ∷ [] ≡ y.left ∷ []
-alone x y e = ap (λ (z : Assignment). z.left ∷ []) (some_same x y e)
+alone x y e = ap (λ (z : Assignment). z.left ∷ []) (same_Some x y e)
 
 pub net_is : (x : BenchItem) (a : Assignment) → assignment_of x ≡ Some a → IsNet x a
 net_is (b.Refused fault) a e = absurd cc

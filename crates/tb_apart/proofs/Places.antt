@@ -1,42 +1,19 @@
 -- Which bits a part of a left side of a net writes: where it can be told, among them all that it writes in any evaluation; and all of them are
 -- bits of its signal.
-use Rattle.std.proofs.Common.{◌≡◌, ◌⊎◌, inl, inr, zero, suc, ℕ, ◌-◌, ◌<◌, ◌≤◌, Bool, true, false, not, ◌&&◌, ◌||◌, nat_eq, nat_le, nat_lt, List, [], ◌∷◌, ◌++◌, map, refl, sym, ap, ◌∙◌, subst, arith}
-use Rattle.std.specs.Prelude.{ℤ, pos, negsuc, ◌+ℤ◌, Option, Some, None, if◌then◌else◌}
+use Rattle.tb_apart.proofs.Common.{◌≡◌, ◌⊎◌, inl, inr, zero, suc, ℕ, ◌-◌, ◌<◌, ◌≤◌, Bool, true, false, not, ◌&&◌, ◌||◌, nat_eq, nat_le, nat_lt, List, [], ◌∷◌, ◌++◌, map, refl, sym, ap, ◌∙◌, subst}
+use Rattle.tb_apart.proofs.Common.{arith, ℤ, pos, negsuc, ◌+ℤ◌, Option, Some, None, if◌then◌else◌, Fault, Names, decl_shape, Bits, Sense, sense, name_bits, fault, or_else, constant_faults, is_empty}
+use Rattle.tb_apart.proofs.Common.{is_fixed, stands_in, part_covers, Select, Whole, Bit, Range, Indexed, Part, Vector, vector_of, part_vector, bits_from, places, select_base, select_width, AreSized}
+use Rattle.tb_apart.proofs.Common.{part_opens, Net, is_placed, form_of, is_told, bits_written, part_writes, some_below, meet_at, or_cases, or_left, or_right, and_from}
 use Rattle.std.proofs.lemmas.Bool.Decides.{nat_tests}
 use Rattle.vlog_meaning.specs.declared.fault.Cause.TheVariants.{DivideByZero}
-use Rattle.vlog_meaning.specs.declared.fault.Fault.{Fault}
 use Rattle.vlog_meaning.specs.declared.scope.Decl.{Decl}
 use Rattle.vlog_meaning.specs.declared.scope.Decl.TheVariants.{Signal, Constant}
 use Rattle.vlog_meaning.specs.Operators.{IsSized}
-use Rattle.vlog_meaning.specs.Scopes.{Names, decl_shape}
-use Rattle.vlog_meaning.specs.Senses.{Bits, Sense, sense, name_bits, fault, or_else, constant_faults, is_empty}
-use Rattle.vlog_effects.specs.Latches.{is_fixed, stands_in, part_covers}
-use Rattle.vlog_effects.specs.LeftSides.{Select, Whole, Bit, Range, Indexed, Part, Vector, vector_of, part_vector, bits_from, places, select_base, select_width}
-use Rattle.elab_proc.specs.Refusals.{AreSized}
-use Rattle.tb_nets.specs.Lefts.{part_opens}
-use Rattle.tb_writers.specs.declared.writers.Writer.TheVariants.{Net}
-use Rattle.tb_writers.specs.Writes.{is_placed, form_of, is_told, bits_written, part_writes, some_below, meet_at}
 
 pub both_true : (a b : Bool) → (a && b) ≡ true → (a ≡ true) × (b ≡ true)
 both_true true true e = (refl, refl)
 both_true true false e = absurd cc
 both_true false b e = absurd cc
-
-pub either_true : (a b : Bool) → (a || b) ≡ true → (a ≡ true) ⊎ (b ≡ true)
-either_true true b e = inl refl
-either_true false b e = inr e
-
-pub second_or : (a b : Bool) → b ≡ true → (a || b) ≡ true
-second_or true b e = refl
-second_or false b e = e
-
-pub first_or : (a b : Bool) → a ≡ true → (a || b) ≡ true
-first_or true b e = refl
-first_or false b e = absurd cc
-
-pub join_and : (a b : Bool) → a ≡ true → b ≡ true → (a && b) ≡ true
-join_and true b e h = h
-join_and false b e h = absurd cc
 
 -- A bit that stands among the places of a vector is one of its bits.
 
@@ -79,7 +56,7 @@ nothing_open true o e h = absurd cc
 nothing_open false o e h = absurd cc
 
 pub part_reaches : (names : Names) (p : Part) (n i : ℕ) → is_told names p ≡ true → (part_covers names p (part_vector names p) n i || part_opens names p n i) ≡ true → part_writes names Net p n i ≡ true
-part_reaches names p n i told h = ap (λ (t : Bool). bits_written names Net p t (part_vector names p) n i) told ∙ covers (either_true (part_covers names p (part_vector names p) n i) (part_opens names p n i) h)
+part_reaches names p n i told h = ap (λ (t : Bool). bits_written names Net p t (part_vector names p) n i) told ∙ covers (or_cases (part_covers names p (part_vector names p) n i) (part_opens names p n i) h)
   where
     covers : (part_covers names p (part_vector names p) n i ≡ true) ⊎ (part_opens names p n i ≡ true) → part_covers names p (part_vector names p) n i ≡ true
     covers (inl e) = e
@@ -110,11 +87,11 @@ some_yes zero f i h e = absurd (omega arith)
 some_yes (suc n) f i h e = go (nat_eq i n) refl (some_yes n f i)
   where
     go : (b : Bool) → nat_eq i n ≡ b → (i < n → f i ≡ true → some_below n f ≡ true) → (f n || some_below n f) ≡ true
-    go true is later = let same : i ≡ n = grind (arith, nat_tests) in first_or (f n) (some_below n f) (ap f (sym same) ∙ e)
-    go false is later = second_or (f n) (some_below n f) (later (grind (arith, nat_tests)) e)
+    go true is later = let same : i ≡ n = grind (arith, nat_tests) in or_left (f n) (some_below n f) (ap f (sym same) ∙ e)
+    go false is later = or_right (f n) (some_below n f) (later (grind (arith, nat_tests)) e)
 
 pub meets : (these those : Bits) (o : Option Vector) (v : Vector) (n i : ℕ) → o ≡ Some v → n ≡ v.number → i < 128 → these n i ≡ true → those n i ≡ true → meet_at these those o ≡ true
 meets these those o v n i is same h e f =
     let here : these v.number i ≡ true = ap (λ (k : ℕ). these k i) (sym same) ∙ e in
     let there : those v.number i ≡ true = ap (λ (k : ℕ). those k i) (sym same) ∙ f in
-    ap (meet_at these those) is ∙ some_yes 128 (λ k. these v.number k && those v.number k) i h (join_and (these v.number i) (those v.number i) here there)
+    ap (meet_at these those) is ∙ some_yes 128 (λ k. these v.number k && those v.number k) i h (and_from (these v.number i) (those v.number i) here there)

@@ -1,27 +1,17 @@
 -- The parts of a left side can be told where nothing is wrong with the assign.
-use Rattle.std.proofs.Common.{◌≡◌, Bool, true, false, ◌&&◌, List, [], ◌∷◌, ◌++◌, map, refl, sym, ap, subst}
-use Rattle.std.specs.Prelude.{None}
-use Rattle.std.specs.List.{flat_map}
-use Rattle.mcy_base.specs.declared.span.Span.{Span}
+use Rattle.tb_apart.proofs.Common.{◌≡◌, true, List, [], ◌∷◌, ◌++◌, map, refl, sym, ap, subst, None, flat_map, Span, LeftSide, Fault, Names, sense, senses, all_faults, assigned, is_empty, IsWhole}
+use Rattle.tb_apart.proofs.Common.{Select, Whole, Bit, Range, Indexed, Part, parts_of, parts_step, concatenated, same_form, form_step, divisions, index_faults, Wrong, part_indices, indices_faults}
+use Rattle.tb_apart.proofs.Common.{net_wrong, net_faults, assign_faults, is_placed, form_of, is_told, and_from}
 use Rattle.vlog_syntax.specs.declared.expr.Expr.{Expr}
 use Rattle.vlog_syntax.specs.declared.expr.Expr.TheVariants as v
-use Rattle.vlog_syntax.specs.declared.left_side.LeftSide.{LeftSide}
 use Rattle.vlog_syntax.specs.declared.left_side.LeftSide.TheOpen as l
 use Rattle.vlog_syntax.specs.declared.left_side.LeftSide.TheOpen.{LeftSide-F}
 use Rattle.vlog_syntax.specs.declared.left_side.LeftSide.TheViews.{roll-LeftSide}
 use Rattle.vlog_syntax.specs.declared.left_side.LeftSide.TheFolds.{fold-roll-LeftSide, ind-LeftSide, map-LeftSide}
-use Rattle.vlog_meaning.specs.declared.fault.Fault.{Fault}
-use Rattle.vlog_meaning.specs.Scopes.{Names}
-use Rattle.vlog_meaning.specs.Senses.{sense, senses, all_faults, assigned, is_empty, IsWhole}
 use Rattle.vlog_meaning.proofs.Blanks.{left_nil, right_nil, these_nil}
 use Rattle.vlog_meaning.proofs.Whole.{whole_join}
 use Rattle.vlog_effects.specs.Expressions.{width_of}
-use Rattle.vlog_effects.specs.LeftSides.{Select, Whole, Bit, Range, Indexed, Part, parts_of, parts_step, concatenated}
-use Rattle.elab_proc.specs.Refusals.{same_form, form_step, divisions}
-use Rattle.tb_faults.specs.declared.fault.BenchFault.TheVariants.{Wrong}
 use Rattle.tb_checks.specs.Lefts.{part_faults}
-use Rattle.tb_checks.specs.Nets.{index_faults, part_indices, indices_faults, net_wrong, net_faults, assign_faults}
-use Rattle.tb_writers.specs.Writes.{is_placed, form_of, is_told}
 
 -- The expression of each part has a shape where that of the left side has one.
 
@@ -79,15 +69,11 @@ placed names (Bit at i) e = ap is_empty e
 placed names (Range at msb lsb) e = refl
 placed names (Indexed at base count) e = ap is_empty e
 
-both : (a b : Bool) → a ≡ true → b ≡ true → (a && b) ≡ true
-both true b e f = f
-both false b e f = absurd cc
-
 told_all : (names : Names) (ps : List Part) → AreWhole names ps → flat_map (part_indices names) ps ≡ [] → AreTold names ps
 told_all names [] whole none = tt
 told_all names (p ∷ ps) whole none =
     let here : part_indices names p ≡ [] = left_nil (part_indices names p) (flat_map (part_indices names) ps) none in
-    let told : is_told names p ≡ true = both (is_placed names p.select) (is_empty (sense names (form_of p)).faults) (placed names p.select here) (ap is_empty whole.0) in
+    let told : is_told names p ≡ true = and_from (is_placed names p.select) (is_empty (sense names (form_of p)).faults) (placed names p.select here) (ap is_empty whole.0) in
     (told, told_all names ps whole.1 (right_nil (part_indices names p) (flat_map (part_indices names) ps) none))
 
 none_wrong : (xs : List Fault) → map Wrong xs ≡ [] → xs ≡ []

@@ -1,25 +1,18 @@
 -- A left side in which nothing is wrong, and whose names are signals, can be written.
-use Rattle.std.proofs.Common.{◌≡◌, ℕ, ◌+◌, ◌≤◌, List, [], ◌∷◌, ◌++◌, map, Option, Some, None, refl, sym, ap, ◌∙◌, subst, arith}
+use Rattle.tb_assigns.proofs.Common.{◌≡◌, ℕ, ◌+◌, ◌≤◌, List, [], ◌∷◌, ◌++◌, map, Option, Some, None, refl, sym, ap, ◌∙◌, subst, arith, Expr, LeftSide, roll-LeftSide, Names, decl_shape, Sense, sense}
+use Rattle.tb_assigns.proofs.Common.{senses, total_width, all_faults, IsWhole, Part, Select, Whole, Bit, Range, Indexed, Vector, vector_of, part_vector, width_by, parts_width, parts_of, parts_step}
+use Rattle.tb_assigns.proofs.Common.{select_width, concatenated, same_form, form_step, IsPart, AreParts, NameSignals, WholeSidesSuffice}
 use Rattle.mcy_base.specs.declared.span.Span.{Span}
 use Rattle.vlog_syntax.specs.declared.identifier.Identifier.{Identifier}
-use Rattle.vlog_syntax.specs.declared.expr.Expr.{Expr}
 use Rattle.vlog_syntax.specs.declared.expr.Expr.TheVariants as v
-use Rattle.vlog_syntax.specs.declared.left_side.LeftSide.{LeftSide}
 use Rattle.vlog_syntax.specs.declared.left_side.LeftSide.TheOpen as l
 use Rattle.vlog_syntax.specs.declared.left_side.LeftSide.TheOpen.{LeftSide-F}
-use Rattle.vlog_syntax.specs.declared.left_side.LeftSide.TheViews.{roll-LeftSide}
 use Rattle.vlog_syntax.specs.declared.left_side.LeftSide.TheFolds.{fold-roll-LeftSide, ind-LeftSide, map-LeftSide}
 use Rattle.vlog_meaning.specs.declared.scope.Decl.{Decl}
 use Rattle.vlog_meaning.specs.declared.scope.Decl.TheVariants.{Signal, Constant}
-use Rattle.vlog_meaning.specs.Scopes.{Names, decl_shape}
-use Rattle.vlog_meaning.specs.Senses.{Sense, sense, senses, total_width, all_faults, IsWhole}
 use Rattle.vlog_meaning.proofs.Blanks.{left_nil, right_nil}
 use Rattle.vlog_meaning.proofs.Steps.{sense_name, sense_bit_select, sense_part_select, sense_indexed_part_select, sense_concatenation}
 use Rattle.vlog_meaning.proofs.Whole.{whole_name, whole_index, whole_part, whole_indexed, whole_join}
-use Rattle.vlog_effects.specs.LeftSides.{Part, Select, Whole, Bit, Range, Indexed, Vector, vector_of, part_vector, width_by, parts_width, parts_of, parts_step, select_width, concatenated}
-use Rattle.elab_proc.specs.Refusals.{same_form, form_step}
-use Rattle.tb_assigns.specs.Updates.{IsPart, AreParts}
-use Rattle.tb_assigns.specs.Laws.{NameSignals, WholeSidesSuffice}
 
 -- the parts can be written, and have as many bits as the expression, at most 128
 record Writes (names : Names) (e : Expr) (ps : List Part) : Type 0 where
@@ -41,7 +34,7 @@ one names e p w width c =
     let narrow = c.narrow in
     record { width = omega (arith, width, here); narrow = omega (arith, width, narrow); parts = ((w, c), tt) }
 
-same_vector : (a b : Vector) → Some a ≡ Some b → a ≡ b
+pub same_vector : (a b : Vector) → Some a ≡ Some b → a ≡ b
 same_vector a b e = cc
 
 named_width : (d : Option Decl) (w : Vector) → vector_of d ≡ Some w → (decl_shape d).width ≡ w.width
@@ -75,7 +68,7 @@ right_indexed names n at base count whole signals =
 
 -- Parts one after the other.
 
-width_both : (names : Names) (ps qs : List Part) → parts_width names (ps ++ qs) ≡ parts_width names ps + parts_width names qs
+pub width_both : (names : Names) (ps qs : List Part) → parts_width names (ps ++ qs) ≡ parts_width names ps + parts_width names qs
 width_both names [] qs = omega arith
 width_both names (p ∷ ps) qs = let rest = width_both names ps qs in omega (arith, rest)
 

@@ -1,20 +1,11 @@
 -- What is found of an assignment is that it can be carried out.
-use Rattle.std.proofs.Common.{◌≡◌, suc, ℕ, ◌<◌, Bool, true, false, ◌&&◌, List, [], ◌∷◌, ◌++◌, map, Option, Some, None, refl, sym, ap, ◌∙◌, length, get_or, take}
-use Rattle.vlog_syntax.specs.declared.expr.Expr.{Expr}
-use Rattle.vlog_syntax.specs.declared.left_side.LeftSide.{LeftSide}
+use Rattle.tb_assigns.proofs.Common.{◌≡◌, suc, ℕ, ◌<◌, Bool, true, false, ◌&&◌, List, [], ◌∷◌, ◌++◌, map, Option, Some, None, refl, sym, ap, ◌∙◌, length, get_or, take, Expr, LeftSide, Names, sense}
+use Rattle.tb_assigns.proofs.Common.{is_empty, Part, Vector, part_vector, parts_of, concatenated, same_form, parts_take, has_shape, is_signal, all_signals, can_assign, NameSignals, CanAssign}
 use Rattle.vlog_syntax.specs.declared.stmt.Assignment.{Assignment}
 use Rattle.vlog_meaning.specs.declared.fault.Fault.{Fault}
 use Rattle.vlog_meaning.specs.Answers.{least}
-use Rattle.vlog_meaning.specs.Scopes.{Names}
-use Rattle.vlog_meaning.specs.Senses.{sense, is_empty}
 use Rattle.vlog_meaning.proofs.Firsts.{least_none}
 use Rattle.vlog_meaning.proofs.Refusals.{least_empty}
-use Rattle.vlog_effects.specs.LeftSides.{Part, Vector, part_vector, parts_of, concatenated}
-use Rattle.elab_proc.specs.Refusals.{same_form}
-use Rattle.elab_proc.proofs.Lists.{parts_take}
-use Rattle.tb_assigns.specs.Checks.{has_shape, is_signal, all_signals, can_assign}
-use Rattle.tb_assigns.specs.Laws.{NameSignals}
-use Rattle.tb_assigns.specs.Updates.{CanAssign}
 use Rattle.tb_assigns.proofs.Checked.{sides_suffice}
 
 pub without_fault : (xs : List Fault) (o : Option Fault) → o ≡ least xs → o ≡ None → true ≡ is_empty xs
@@ -41,15 +32,15 @@ signals_next names parts k x found here r is within before one both =
     ∙ sym (signals_append names ps (parts_of x))
     ∙ ap (all_signals names) (sym (parts_take parts k x is within))
 
-and_left : (a b : Bool) → a && b ≡ true → a ≡ true
+pub and_left : (a b : Bool) → a && b ≡ true → a ≡ true
 and_left true b e = refl
 and_left false b e = absurd cc
 
-and_right : (a b : Bool) → a && b ≡ true → b ≡ true
+pub and_right : (a b : Bool) → a && b ≡ true → b ≡ true
 and_right true b e = e
 and_right false b e = absurd cc
 
-empty_is : (xs : List Fault) → is_empty xs ≡ true → xs ≡ []
+pub empty_is : (xs : List Fault) → is_empty xs ≡ true → xs ≡ []
 empty_is [] e = refl
 empty_is (x ∷ xs) e = absurd cc
 

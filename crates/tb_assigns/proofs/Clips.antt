@@ -1,13 +1,9 @@
 -- What of a window lies in its signal.
-use Rattle.std.proofs.Common.{◌≡◌, zero, suc, ℕ, ◌+◌, ◌-◌, ◌/◌, ◌^◌, min, ap, sym, ◌∙◌, arith}
-use Rattle.std.specs.Prelude.{Bool, true, ℤ, pos, neg_ℤ, ◌-ℤ◌, if◌then◌else◌}
-use Rattle.std.proofs.lemmas.Int.{ints}
+use Rattle.tb_assigns.proofs.Common.{◌≡◌, zero, suc, ℕ, ◌+◌, ◌-◌, ◌/◌, ◌^◌, min, ap, sym, ◌∙◌, arith, ℤ, pos, neg_ℤ, ◌-ℤ◌, if◌then◌else◌, ints, bound_integer, Vector, some_bits, clipped}
+use Rattle.std.specs.Prelude.{Bool, true}
 use Rattle.vlog_meaning.specs.declared.bound.Bound.{Bound}
-use Rattle.vlog_meaning.specs.Integers.{bound_integer}
-use Rattle.vlog_effects.specs.LeftSides.{Vector}
-use Rattle.tb_assigns.specs.Updates.{some_bits, clipped}
 
-whole : (v : ℕ) → v / 2 ^ 0 ≡ v
+pub whole : (v : ℕ) → v / 2 ^ 0 ≡ v
 whole v = omega arith
 
 -- a window that begins so many bits below its signal

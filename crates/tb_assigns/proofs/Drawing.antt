@@ -1,20 +1,8 @@
 -- Pieces are what the parts of a left side write.
-use Rattle.std.proofs.Common.{◌≡◌, suc, ℕ, ◌<◌, List, [], ◌∷◌, ◌++◌, map, refl, ap, sym, ◌∙◌, length, get_or, take, append_assoc, append-nil, Some, Option}
-use Rattle.std.specs.Prelude.{ℤ}
-use Rattle.std.proofs.lemmas.List.{map-append}
-use Rattle.rand_pcg.specs.Lcg.{Lcg}
-use Rattle.vlog_syntax.specs.declared.expr.Expr.{Expr}
-use Rattle.vlog_syntax.specs.declared.left_side.LeftSide.{LeftSide}
+use Rattle.tb_assigns.proofs.Common.{◌≡◌, suc, ℕ, ◌<◌, List, [], ◌∷◌, ◌++◌, map, refl, ap, sym, ◌∙◌, length, get_or, take, append_assoc, append-nil, Some, Option, ℤ, map-append, Lcg, Expr, LeftSide}
+use Rattle.tb_assigns.proofs.Common.{integer, bound_integer, Names, Store, sense, Part, Vector, part_vector, select_width, parts_of, concatenated, parts_take, evaluated, Piece, Window, index_drawn}
+use Rattle.tb_assigns.proofs.Common.{base_drawn, window_drawn, windows_drawn, vector_is, window_of, windows_of, IsDrawn, onto, AreDrawn}
 use Rattle.vlog_meaning.specs.declared.shapes.Shape.{Shape}
-use Rattle.vlog_meaning.specs.Integers.{integer, bound_integer}
-use Rattle.vlog_meaning.specs.Scopes.{Names, Store}
-use Rattle.vlog_meaning.specs.Senses.{sense}
-use Rattle.vlog_effects.specs.LeftSides.{Part, Vector, part_vector, select_width, parts_of, concatenated}
-use Rattle.elab_proc.proofs.Lists.{parts_take}
-use Rattle.tb_values.specs.Values.{evaluated}
-use Rattle.tb_assigns.specs.declared.piece.Piece.{Piece}
-use Rattle.tb_assigns.specs.Updates.{Window, index_drawn, base_drawn, window_drawn, windows_drawn}
-use Rattle.tb_assigns.specs.Pieces.{vector_is, window_of, windows_of, IsDrawn, onto, AreDrawn}
 
 pub index_is : (names : Names) (phase : ℕ) (store : Store) (index : Expr) (g h : Lcg) (v : ℕ) (b : ℤ) (shape : Shape) → b ≡ integer shape v → (v, h) ≡ evaluated names phase index store shape g → shape ≡ (sense names index).shape → (b, h) ≡ index_drawn names phase store index g
 index_is names phase store index g h v b shape is value own =

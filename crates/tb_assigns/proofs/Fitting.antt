@@ -1,18 +1,8 @@
 -- Each update gives bits of a declared signal a value that fits, and nothing is written where no bit is in range.
-use Rattle.std.proofs.Common.{◌≡◌, zero, suc, ℕ, ◌+◌, ◌-◌, ◌/◌, ◌<◌, ◌≤◌, ◌^◌, min, List, [], ◌∷◌, ◌++◌, refl, ap, ◌∙◌, arith, Option, None, Some}
-use Rattle.std.specs.Prelude.{ℤ, pos, negsuc, ◌+ℤ◌, ◌-ℤ◌}
-use Rattle.std.proofs.Math.Nat.{mod-lt}
+use Rattle.tb_assigns.proofs.Common.{◌≡◌, zero, suc, ℕ, ◌+◌, ◌-◌, ◌/◌, ◌<◌, ◌≤◌, ◌^◌, min, List, [], ◌∷◌, ◌++◌, refl, ap, ◌∙◌, arith, Option, None, Some, ℤ, pos, negsuc, ◌+ℤ◌, ◌-ℤ◌, mod-lt, ints}
+use Rattle.tb_assigns.proofs.Common.{pow_pos, Lcg, Names, Store, sense, assigned, Select, Part, Vector, vector_of, part_vector, parts_of, parts_width, bit_at, Update, evaluated, Window, some_bits}
+use Rattle.tb_assigns.proofs.Common.{clipped, window_update, total_size, updates_of, window_drawn, windows_drawn, AreOfSignals, UpdatesFit, OutsideStays}
 use Rattle.std.proofs.lemmas.Bool.{lt-ltb, le-leb}
-use Rattle.std.proofs.lemmas.Int.{ints}
-use Rattle.std.proofs.lemmas.Nat.{pow_pos}
-use Rattle.rand_pcg.specs.Lcg.{Lcg}
-use Rattle.vlog_meaning.specs.Scopes.{Names, Store}
-use Rattle.vlog_meaning.specs.Senses.{sense, assigned}
-use Rattle.vlog_effects.specs.LeftSides.{Select, Part, Vector, vector_of, part_vector, parts_of, parts_width, bit_at}
-use Rattle.tb_machine.specs.declared.update.Update.{Update}
-use Rattle.tb_values.specs.Values.{evaluated}
-use Rattle.tb_assigns.specs.Updates.{Window, some_bits, clipped, window_update, total_size, updates_of, window_drawn, windows_drawn}
-use Rattle.tb_assigns.specs.Laws.{AreOfSignals, UpdatesFit, OutsideStays}
 
 -- a window of a declared signal
 

@@ -1,14 +1,7 @@
 -- The last window is written first.
-use Rattle.std.proofs.Common.{◌≡◌, ℕ, ◌+◌, ◌/◌, ◌^◌, List, [], ◌∷◌, ◌++◌, ap, sym, ◌∙◌, arith, append_assoc, append-nil}
-use Rattle.std.proofs.lemmas.List.{map-append}
-use Rattle.std.proofs.lemmas.Nat.{shr-shr}
-use Rattle.tb_machine.specs.declared.update.Update.{Update}
-use Rattle.tb_assigns.specs.declared.piece.Piece.{Piece}
-use Rattle.tb_assigns.specs.Updates.{Window, window_update, total_size, updates_of}
-use Rattle.tb_assigns.specs.Pieces.{window_of, windows_of}
-
-whole : (v : ℕ) → v / 2 ^ 0 ≡ v
-whole v = omega arith
+use Rattle.tb_assigns.proofs.Common.{◌≡◌, ℕ, ◌+◌, ◌/◌, ◌^◌, List, [], ◌∷◌, ◌++◌, ap, sym, ◌∙◌, arith, append_assoc, append-nil, map-append, shr-shr, Update, Piece, Window, window_update, total_size}
+use Rattle.tb_assigns.proofs.Common.{updates_of, window_of, windows_of}
+use Rattle.tb_assigns.proofs.Clips.{whole}
 
 total_last : (ws : List Window) (w : Window) → total_size (ws ++ w ∷ []) ≡ w.size + total_size ws
 total_last [] w = omega arith

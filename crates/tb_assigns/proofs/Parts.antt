@@ -1,10 +1,7 @@
 -- What each of several left sides has, and how many bits they write together.
-use Rattle.std.proofs.Common.{◌≡◌, zero, suc, ℕ, ◌+◌, ◌<◌, ◌≤◌, List, [], ◌∷◌, ◌++◌, map, ap, subst, sym, ◌∙◌, arith, length, get_or, take}
-use Rattle.vlog_syntax.specs.declared.left_side.LeftSide.{LeftSide}
-use Rattle.vlog_meaning.specs.Scopes.{Names}
-use Rattle.vlog_effects.specs.LeftSides.{Part, Vector, parts_of, parts_width, concatenated}
-use Rattle.elab_proc.proofs.Lists.{parts_take}
-use Rattle.tb_assigns.specs.Updates.{IsPart, AreParts}
+use Rattle.tb_assigns.proofs.Common.{◌≡◌, zero, suc, ℕ, ◌+◌, ◌<◌, ◌≤◌, List, [], ◌∷◌, ◌++◌, map, ap, subst, sym, ◌∙◌, arith, length, get_or, take, LeftSide, Names, Part, parts_of, parts_width}
+use Rattle.tb_assigns.proofs.Common.{concatenated, parts_take, AreParts}
+use Rattle.tb_assigns.proofs.Checked.{width_both}
 
 parts_right : (names : Names) (ps qs : List Part) → AreParts names (ps ++ qs) → AreParts names qs
 parts_right names [] qs h = h
@@ -19,26 +16,18 @@ parts_element names [] k x is h can = absurd (omega arith)
 parts_element names (y ∷ ys) zero x is h can = subst (λ (z : LeftSide). AreParts names (parts_of z)) (sym is) (parts_left names (parts_of y) (concatenated (map parts_of ys)) can)
 parts_element names (y ∷ ys) (suc k) x is h can = parts_element names ys k x is (omega arith) (parts_right names (parts_of y) (concatenated (map parts_of ys)) can)
 
--- one part alone
-pub part_alone : (names : Names) (ps : List Part) (p : Part) → ps ≡ p ∷ [] → AreParts names ps → (v : Vector) × IsPart names p v
-part_alone names ps p is h = (subst (AreParts names) is h).0
-
-width_append : (names : Names) (ps qs : List Part) → parts_width names (ps ++ qs) ≡ parts_width names ps + parts_width names qs
-width_append names [] qs = omega arith
-width_append names (p ∷ ps) qs = let e = width_append names ps qs in omega (arith, e)
-
 width_within : (names : Names) (parts : List LeftSide) (k : ℕ) → parts_width names (concatenated (map parts_of (take k parts))) ≤ parts_width names (concatenated (map parts_of parts))
 width_within names [] zero = omega arith
 width_within names [] (suc k) = omega arith
 width_within names (y ∷ ys) zero = omega arith
 width_within names (y ∷ ys) (suc k) =
     let e = width_within names ys k in
-    let f = width_append names (parts_of y) (concatenated (map parts_of (take k ys))) in
-    let g = width_append names (parts_of y) (concatenated (map parts_of ys)) in
+    let f = width_both names (parts_of y) (concatenated (map parts_of (take k ys))) in
+    let g = width_both names (parts_of y) (concatenated (map parts_of ys)) in
     omega (arith, e, f, g)
 
 pub width_next : (names : Names) (parts : List LeftSide) (k : ℕ) (x : LeftSide) → x ≡ get_or parts k x → k < length parts → parts_width names (concatenated (map parts_of (take (suc k) parts))) ≡ parts_width names (concatenated (map parts_of (take k parts))) + parts_width names (parts_of x)
-width_next names parts k x is h = ap (parts_width names) (parts_take parts k x is h) ∙ width_append names (concatenated (map parts_of (take k parts))) (parts_of x)
+width_next names parts k x is h = ap (parts_width names) (parts_take parts k x is h) ∙ width_both names (concatenated (map parts_of (take k parts))) (parts_of x)
 
 -- one part more has no more bits than all
 pub width_fits : (names : Names) (parts : List LeftSide) (k : ℕ) (x : LeftSide) (n : ℕ) → x ≡ get_or parts k x → k < length parts → parts_width names (concatenated (map parts_of parts)) ≤ n → parts_width names (concatenated (map parts_of (take k parts))) + parts_width names (parts_of x) ≤ n

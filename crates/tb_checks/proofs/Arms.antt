@@ -1,26 +1,10 @@
 -- The first fault of a statement of each kind, from those of its parts.
-use Rattle.std.proofs.Common.{◌≡◌, List, [], ◌∷◌, ◌++◌, map, refl, sym, ap, ◌∙◌, subst, append_assoc}
-use Rattle.std.specs.Prelude.{Option, None, Some}
-use Rattle.std.specs.List.{flat_map}
-use Rattle.std.proofs.lemmas.List.{append-nil}
-use Rattle.mcy_base.specs.declared.span.Span.{Span}
-use Rattle.vlog_syntax.specs.declared.feature.Feature.TheVariants.{Delay}
-use Rattle.vlog_syntax.specs.declared.identifier.Identifier.{Identifier}
-use Rattle.vlog_syntax.specs.declared.expr.Expr.{Expr}
-use Rattle.vlog_syntax.specs.declared.stmt.Argument.{Argument}
-use Rattle.vlog_syntax.specs.declared.stmt.Assignment.{Assignment}
+use Rattle.tb_checks.proofs.Common.{◌≡◌, List, [], ◌∷◌, ◌++◌, map, refl, sym, ap, ◌∙◌, subst, append_assoc, Option, None, Some, flat_map, append-nil, Span, Delay, Identifier, Expr, Argument}
+use Rattle.tb_checks.proofs.Common.{Assignment, CaseItem, EventControl, Stmt, labels_in, BenchFault, Wrong, Unsupported, IsFirst, case_faults, Rules, all_labels, test_faults, assignment_faults}
+use Rattle.tb_checks.proofs.Common.{control_faults, task_faults, stmt_faults, item_faults}
 use Rattle.vlog_syntax.specs.declared.stmt.CaseKind.{CaseKind}
-use Rattle.vlog_syntax.specs.declared.stmt.CaseItem.{CaseItem}
-use Rattle.vlog_syntax.specs.declared.stmt.EventControl.{EventControl}
-use Rattle.vlog_syntax.specs.declared.stmt.Stmt.{Stmt}
 use Rattle.vlog_syntax.specs.declared.stmt.Stmt.TheOpen as s
 use Rattle.vlog_syntax.specs.declared.stmt.Stmt.TheVariants as v
-use Rattle.elab_proc.specs.Refusals.{labels_in}
-use Rattle.tb_faults.specs.declared.fault.BenchFault.{BenchFault}
-use Rattle.tb_faults.specs.declared.fault.BenchFault.TheVariants.{Wrong, Unsupported}
-use Rattle.tb_faults.specs.Order.{IsFirst}
-use Rattle.tb_checks.specs.Expressions.{case_faults}
-use Rattle.tb_checks.specs.Statements.{Rules, all_labels, test_faults, assignment_faults, control_faults, task_faults, stmt_faults, item_faults}
 use Rattle.tb_checks.proofs.Firsts.{same, moved}
 use Rattle.tb_checks.proofs.Layers.{layer_is, statements_are, bodies_are, labels_are}
 

@@ -1,19 +1,10 @@
 -- Statements that may set the clock, by their layers, and those of blocks.
-use Rattle.std.proofs.Common.{◌≡◌, zero, suc, ℕ, ◌<◌, Bool, true, false, not, ◌&&◌, ◌||◌, List, [], ◌∷◌, ◌++◌, map, refl, sym, ap, ◌∙◌, subst, arith, append_assoc, length, get_or, take, drop}
-use Rattle.std.specs.Prelude.{Option, None, Some}
-use Rattle.std.proofs.lemmas.List.{append-nil}
-use Rattle.mcy_base.specs.declared.span.Span.{Span}
-use Rattle.vlog_syntax.specs.declared.identifier.Identifier.{Identifier}
-use Rattle.vlog_syntax.specs.declared.stmt.CaseItem.{CaseItem, roll-CaseItem}
-use Rattle.vlog_syntax.specs.declared.stmt.Stmt.{Stmt, roll-Stmt, out-Stmt, out-roll-Stmt, roll-out-Stmt}
+use Rattle.tb_checks.proofs.Common.{◌≡◌, zero, suc, ℕ, ◌<◌, Bool, true, false, not, ◌&&◌, ◌||◌, List, [], ◌∷◌, ◌++◌, map, refl, sym, ap, ◌∙◌, subst, arith, append_assoc, length, get_or, take, drop}
+use Rattle.tb_checks.proofs.Common.{Option, None, Some, append-nil, Span, Identifier, CaseItem, roll-CaseItem, Stmt, roll-Stmt, out-Stmt, out-roll-Stmt, roll-out-Stmt, Stmt-F, CaseItem-F}
+use Rattle.tb_checks.proofs.Common.{fold-CaseItem, fold-roll-Stmt, fold-roll-CaseItem, fold_out-Stmt, ind-Stmt, map-Stmt, BenchFault, IsFirst, Begun, waits, is_start, first_faults, some_sets}
+use Rattle.tb_checks.proofs.Common.{turn_faults, may_behind, block_faults, sets_in, starting_in, begun_step, item_again, begun, sets, starting, Rules, stmt_faults}
 use Rattle.vlog_syntax.specs.declared.stmt.Stmt.TheOpen as s
-use Rattle.vlog_syntax.specs.declared.stmt.Stmt.TheOpen.{Stmt-F, CaseItem-F}
 use Rattle.vlog_syntax.specs.declared.stmt.Stmt.TheVariants as sv
-use Rattle.vlog_syntax.specs.declared.stmt.Stmt.TheFolds.{fold-CaseItem, fold-roll-Stmt, fold-roll-CaseItem, fold_out-Stmt, ind-Stmt, map-Stmt}
-use Rattle.tb_faults.specs.declared.fault.BenchFault.{BenchFault}
-use Rattle.tb_faults.specs.Order.{IsFirst}
-use Rattle.tb_checks.specs.Starts.{Begun, waits, is_start, first_faults, some_sets, turn_faults, may_behind, block_faults, sets_in, starting_in, begun_step, item_again, begun, sets, starting}
-use Rattle.tb_checks.specs.Statements.{Rules, stmt_faults}
 use Rattle.tb_checks.proofs.Firsts.{Joins}
 
 module _ (r : Rules) where

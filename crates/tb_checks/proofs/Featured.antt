@@ -1,13 +1,6 @@
 -- What is only supported in constants, in an expression of each production.
-use Rattle.std.proofs.Common.{◌≡◌, ℕ, zero, suc, ◌<◌, List, [], ◌∷◌, ◌++◌, sym, ap, ◌∙◌, take, get_or, length, arith, append_assoc}
-use Rattle.std.specs.Prelude.{Option, None}
-use Rattle.std.proofs.lemmas.List.{append-nil}
-use Rattle.vlog_syntax.specs.declared.expr.Expr.{Expr}
-use Rattle.vlog_meaning.specs.declared.fault.Fault.{Fault}
-use Rattle.vlog_meaning.specs.Answers.{least, earlier}
-use Rattle.vlog_meaning.specs.Scopes.{Names}
-use Rattle.vlog_meaning.specs.Senses.{Sense, sense, senses, all_features}
-use Rattle.vlog_meaning.proofs.Refusals.{least_empty, pair_first}
+use Rattle.tb_checks.proofs.Common.{◌≡◌, ℕ, zero, suc, ◌<◌, List, [], ◌∷◌, ◌++◌, sym, ap, ◌∙◌, take, get_or, length, arith, append_assoc, Option, None, append-nil, Expr, Fault, least, earlier, Names}
+use Rattle.tb_checks.proofs.Common.{Sense, sense, senses, all_features, least_empty, pair_first}
 
 pub none_features : (names : Names) (x : Expr) (s : Sense) → sense names x ≡ s → s.features ≡ [] → None ≡ least (sense names x).features
 none_features names x s is none = least_empty ∙ ap least (sym (ap (λ (q : Sense). q.features) is ∙ none))

@@ -1,10 +1,6 @@
 -- The first fault of parts, one after the other.
-use Rattle.std.proofs.Common.{◌≡◌, suc, ℕ, ◌<◌, List, ◌++◌, sym, subst, length, get_or, take}
-use Rattle.std.specs.Prelude.{Option}
-use Rattle.std.specs.List.{flat_map}
-use Rattle.elab_proc.proofs.Lists.{flat_take}
-use Rattle.tb_faults.specs.declared.fault.BenchFault.{BenchFault}
-use Rattle.tb_faults.specs.Order.{IsFirst}
+use Rattle.tb_checks.proofs.Common.{◌≡◌, suc, ℕ, ◌<◌, List, ◌++◌, sym, subst, length, get_or, take, Option, flat_map, BenchFault, IsFirst}
+use Rattle.vlog_refusals.proofs.Lists.{flat_take}
 
 -- the earlier of two stands first in both lists
 abbrev pub Joins : Option BenchFault → Option BenchFault → Option BenchFault → Type 0

@@ -1,14 +1,6 @@
 -- The faults of a statement, from those of its parts.
-use Rattle.std.proofs.Common.{◌≡◌, List, [], ◌∷◌, ◌++◌, map, refl, ap, ◌∙◌}
-use Rattle.std.specs.List.{flat_map}
-use Rattle.vlog_syntax.specs.declared.expr.Expr.{Expr}
-use Rattle.vlog_syntax.specs.declared.stmt.CaseItem.{CaseItem, out-CaseItem}
-use Rattle.vlog_syntax.specs.declared.stmt.Stmt.{Stmt, roll-Stmt}
-use Rattle.vlog_syntax.specs.declared.stmt.Stmt.TheOpen.{Stmt-F}
-use Rattle.vlog_syntax.specs.declared.stmt.Stmt.TheFolds.{fold-roll-Stmt, fold_out-CaseItem, map-Stmt}
-use Rattle.elab_proc.specs.Refusals.{labels_in}
-use Rattle.tb_faults.specs.declared.fault.BenchFault.{BenchFault}
-use Rattle.tb_checks.specs.Statements.{Rules, ItemFaults, all_faults, all_labels, all_bodies, stmt_step, item_step, stmt_faults, item_faults}
+use Rattle.tb_checks.proofs.Common.{◌≡◌, List, [], ◌∷◌, ◌++◌, map, refl, ap, ◌∙◌, flat_map, Expr, CaseItem, out-CaseItem, Stmt, roll-Stmt, Stmt-F, fold-roll-Stmt, fold_out-CaseItem, map-Stmt}
+use Rattle.tb_checks.proofs.Common.{labels_in, BenchFault, Rules, ItemFaults, all_faults, all_labels, all_bodies, stmt_step, item_step, stmt_faults, item_faults}
 
 module _ (r : Rules) where
   -- a layer, with the faults of its parts

@@ -1,3 +1,4 @@
+mod Common
 pub mod Featured
 pub mod Random
 pub mod Whole

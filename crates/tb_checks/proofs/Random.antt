@@ -1,11 +1,8 @@
 -- Where an expression of each production draws a random number.
-use Rattle.std.proofs.Common.{◌≡◌, ℕ, zero, suc, ◌<◌, List, [], ◌∷◌, ◌++◌, map, sym, ap, ◌∙◌, take, get_or, length, arith, append_assoc}
-use Rattle.std.proofs.lemmas.List.{append-nil}
-use Rattle.mcy_base.specs.declared.span.Span.{Span}
-use Rattle.vlog_syntax.specs.declared.expr.Expr.{Expr, roll-Expr}
+use Rattle.tb_checks.proofs.Common.{◌≡◌, ℕ, zero, suc, ◌<◌, List, [], ◌∷◌, ◌++◌, map, sym, ap, ◌∙◌, take, get_or, length, arith, append_assoc, append-nil, Span, Expr, roll-Expr, randoms, randoms_step}
+use Rattle.tb_checks.proofs.Common.{all_randoms}
 use Rattle.vlog_syntax.specs.declared.expr.Expr.TheOpen.{Expr-F}
 use Rattle.vlog_syntax.specs.declared.expr.Expr.TheFolds.{fold-roll-Expr, map-Expr}
-use Rattle.tb_checks.specs.Nets.{randoms, randoms_step, all_randoms}
 
 -- those of an expression, from those of its parts
 pub random_parts : (x : Expr) (o : Expr-F Expr) → x ≡ roll-Expr o → randoms x ≡ randoms_step (map-Expr Expr (List Span) randoms o)

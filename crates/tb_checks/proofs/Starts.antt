@@ -1,41 +1,22 @@
 -- The start of the clock.
-use Rattle.std.proofs.Common.{◌≡◌, ℕ, ◌≤◌, Bool, true, false, List, [], ◌∷◌, ◌++◌, sym, ap, ◌∙◌, subst, if◌then◌else◌}
-use Rattle.std.specs.Prelude.{Option, None, Some}
-use Rattle.mcy_base.specs.declared.span.Span.{Span}
-use Rattle.vlog_syntax.specs.declared.feature.Feature.TheVariants.{ClockList}
-use Rattle.vlog_syntax.specs.declared.expr.Expr.{Expr}
+use Rattle.tb_checks.proofs.Common.{◌≡◌, ℕ, ◌≤◌, Bool, true, false, List, [], ◌∷◌, ◌++◌, sym, ap, ◌∙◌, subst, if◌then◌else◌, Option, None, Some, Span, ClockList, Expr, Assignment, EventControl, Stmt}
+use Rattle.tb_checks.proofs.Common.{roll-Stmt, out-Stmt, out-roll-Stmt, roll-out-Stmt, CaseItem, Stmt-F, Fault, least, Sense, sense, own_zeros, assigned, name_faults, left_nil, these_nil, least_none}
+use Rattle.tb_checks.proofs.Common.{divisions, BenchFault, Wrong, Unsupported, IsFirst, first_wrong, wrong, sides_faults, is_clock, signal_width, clock_width, unless, start_value, start_faults, Rules}
+use Rattle.tb_checks.proofs.Common.{control_faults, stmt_faults}
 use Rattle.vlog_syntax.specs.declared.left_side.LeftSide.{LeftSide, out-LeftSide}
 use Rattle.vlog_syntax.specs.declared.left_side.LeftSide.TheOpen as l
 use Rattle.vlog_syntax.specs.declared.left_side.LeftSide.TheOpen.{LeftSide-F}
 use Rattle.vlog_syntax.specs.declared.left_side.LeftSide.TheFolds.{fold_out-LeftSide, map-LeftSide}
-use Rattle.vlog_syntax.specs.declared.stmt.Assignment.{Assignment}
-use Rattle.vlog_syntax.specs.declared.stmt.EventControl.{EventControl}
-use Rattle.vlog_syntax.specs.declared.stmt.Stmt.{Stmt, roll-Stmt, out-Stmt, out-roll-Stmt, roll-out-Stmt}
-use Rattle.vlog_syntax.specs.declared.stmt.CaseItem.{CaseItem}
 use Rattle.vlog_syntax.specs.declared.stmt.Stmt.TheOpen as s
-use Rattle.vlog_syntax.specs.declared.stmt.Stmt.TheOpen.{Stmt-F}
 use Rattle.vlog_syntax.specs.declared.stmt.Stmt.TheVariants as sv
 use Rattle.vlog_syntax.specs.Places.{left_first_token}
-use Rattle.vlog_meaning.specs.declared.fault.Fault.{Fault}
 use Rattle.vlog_meaning.specs.declared.scope.Decl.{Decl}
 use Rattle.vlog_meaning.specs.declared.scope.Decl.TheVariants.{Signal, Constant}
-use Rattle.vlog_meaning.specs.Answers.{least}
-use Rattle.vlog_meaning.specs.Senses.{Sense, sense, own_zeros, assigned, name_faults}
-use Rattle.vlog_meaning.proofs.Blanks.{left_nil, these_nil}
-use Rattle.vlog_meaning.proofs.Firsts.{least_none}
 use Rattle.vlog_meaning.proofs.Steps.{sense_name}
 use Rattle.vlog_meaning.proofs.Whole.{sized_within}
 use Rattle.vlog_effects.specs.Expressions.{constant_of, width_of}
-use Rattle.elab_proc.specs.Refusals.{same_form, form_step, divisions}
-use Rattle.tb_faults.specs.declared.fault.BenchFault.{BenchFault}
-use Rattle.tb_faults.specs.declared.fault.BenchFault.TheVariants.{Wrong, Unsupported}
-use Rattle.tb_faults.specs.Order.{IsFirst}
-use Rattle.tb_faults.proofs.Firsts.{first_wrong}
-use Rattle.tb_checks.specs.Expressions.{wrong, sides_faults}
-use Rattle.tb_checks.specs.Lefts.{is_clock}
+use Rattle.elab_proc.specs.Refusals.{same_form, form_step}
 use Rattle.tb_checks.specs.Processes.{always_faults}
-use Rattle.tb_checks.specs.Starts.{signal_width, clock_width, unless, start_value, start_faults}
-use Rattle.tb_checks.specs.Statements.{Rules, control_faults, stmt_faults}
 
 unless_some : (fs : List Fault) (those : List BenchFault) (f : Fault) → Some f ≡ least fs → IsFirst (unless fs those) (Some (Wrong f))
 unfolding least

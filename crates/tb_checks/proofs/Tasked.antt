@@ -1,13 +1,7 @@
 -- A task that neither prints nor writes a dump.
-use Rattle.std.proofs.Common.{◌≡◌, Bool, false, List, [], ◌++◌, subst, sym, if◌then◌else◌}
-use Rattle.std.specs.Prelude.{Option}
-use Rattle.vlog_syntax.specs.declared.identifier.Identifier.{Identifier}
-use Rattle.vlog_syntax.specs.declared.stmt.Argument.{Argument}
-use Rattle.vlog_meaning.specs.Scopes.{Names}
-use Rattle.tb_faults.specs.declared.fault.BenchFault.{BenchFault}
-use Rattle.tb_faults.specs.Order.{IsFirst}
+use Rattle.tb_checks.proofs.Common.{◌≡◌, Bool, false, List, [], ◌++◌, subst, sym, if◌then◌else◌, Option, Identifier, Argument, Names, BenchFault, IsFirst, is_print, is_dump, other_task}
+use Rattle.tb_checks.proofs.Common.{arguments_faults, format_faults, task_faults}
 use Rattle.tb_tasks.specs.Tasks.{arguments_fit}
-use Rattle.tb_checks.specs.Statements.{is_print, is_dump, other_task, arguments_faults, format_faults, task_faults}
 
 pub other_first : (names : Names) (n : Identifier) (arguments : List Argument) (o : Option BenchFault) → is_print n.name ≡ false → is_dump n.name ≡ false → IsFirst (other_task n ++ arguments_faults names arguments) o → IsFirst (task_faults names n arguments) o
 other_first names n arguments o print dump h =

@@ -1,24 +1,5 @@
--- Expressions in which nothing is wrong have shapes.
-use Rattle.std.proofs.Common.{◌≡◌, ℕ, ◌<◌, max, List, [], map, get_or, length, sym, ap, ◌∙◌}
-use Rattle.std.specs.Prelude.{Option, None}
-use Rattle.std.specs.List.{flat_map}
-use Rattle.vlog_syntax.specs.declared.expr.Expr.{Expr}
-use Rattle.vlog_meaning.specs.declared.fault.Cause.TheVariants.{SystemFunction}
-use Rattle.vlog_meaning.specs.declared.fault.Fault.{Fault}
-use Rattle.vlog_meaning.specs.declared.shapes.Shape.{Shape}
-use Rattle.vlog_meaning.specs.Answers.{least}
-use Rattle.vlog_meaning.specs.Scopes.{Names}
-use Rattle.vlog_meaning.specs.Senses.{IsWhole, fault}
-use Rattle.vlog_meaning.proofs.Blanks.{left_nil}
-use Rattle.vlog_meaning.proofs.Firsts.{least_none}
-use Rattle.elab_proc.proofs.CaseLemmas.{each_nil}
-use Rattle.tb_checks.specs.Expressions.{wrong}
-use Rattle.tb_checks.specs.Nets.{net_wrong, randoms}
-
-pub each_whole : (names : Names) (xs : List Expr) (k : ℕ) (x : Expr) → x ≡ get_or xs k x → k < length xs → flat_map (wrong names) xs ≡ [] → IsWhole names x
-each_whole names xs k x is h e = left_nil _ _ (each_nil (wrong names) xs k x is h e)
-
--- The same of nets.
+-- Expressions of nets in which nothing is wrong have shapes.
+use Rattle.tb_checks.proofs.Common.{◌≡◌, ℕ, max, [], map, sym, ap, ◌∙◌, Option, None, Expr, SystemFunction, Fault, Shape, least, Names, IsWhole, fault, left_nil, least_none, wrong, net_wrong, randoms}
 
 pub net_whole : (names : Names) (x : Expr) → net_wrong names x ≡ [] → IsWhole names x
 net_whole names x e = left_nil _ _ (left_nil (wrong names x) (map (fault SystemFunction) (randoms x)) e)

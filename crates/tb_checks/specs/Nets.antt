@@ -13,10 +13,11 @@ use Rattle.vlog_meaning.specs.declared.function.Function.{Function}
 use Rattle.vlog_meaning.specs.declared.function.Function.TheVariants.{Random}
 use Rattle.vlog_meaning.specs.Functions.{function_of}
 use Rattle.vlog_meaning.specs.Scopes.{Names}
-use Rattle.vlog_meaning.specs.Senses.{sense, assigned, fault, or_else, own_zeros, constant_faults}
+use Rattle.vlog_meaning.specs.Senses.{sense, assigned, fault, or_else, own_zeros}
 use Rattle.vlog_effects.specs.Expressions.{width_of}
-use Rattle.vlog_effects.specs.LeftSides.{Select, Bit, Indexed, Part, parts_of}
-use Rattle.elab_proc.specs.Refusals.{divisions, same_form}
+use Rattle.vlog_effects.specs.LeftSides.{Part, parts_of}
+use Rattle.vlog_refusals.specs.Expressions.{divisions, index_faults}
+use Rattle.elab_proc.specs.Refusals.{same_form}
 use Rattle.tb_faults.specs.declared.fault.BenchFault.{BenchFault}
 use Rattle.tb_faults.specs.declared.fault.BenchFault.TheVariants.{Wrong}
 use Rattle.tb_checks.specs.Expressions.{wrong}
@@ -62,11 +63,6 @@ abbrev pub form_faults : Names → Expr → List Fault
 form_faults names x = or_else (net_wrong names x) (divisions (own_zeros (sense names x)))
 
 -- The left side of a net is the same at all times, so its indices are constants (A.8.5).
-
-abbrev pub index_faults : Names → Select → List Fault
-index_faults names (Bit at i) = constant_faults (sense names i)
-index_faults names (Indexed at base count) = constant_faults (sense names base)
-index_faults names select = []
 
 abbrev pub part_indices : Names → Part → List Fault
 part_indices names p = index_faults names p.select

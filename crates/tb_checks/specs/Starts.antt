@@ -55,9 +55,6 @@ item_step i = i.body
 abbrev pub waits : Stmt → Bool
 waits = fold-Stmt Bool Bool waits_step item_step
 
-abbrev pub item_waits : CaseItem → Bool
-item_waits = fold-CaseItem Bool Bool waits_step item_step
-
 -- An assignment to the clock.
 
 abbrev pub start_value : Span → ℕ → Option ℕ → List BenchFault
@@ -150,3 +147,8 @@ sets r x = (begun r x).sets
 -- what is wrong in it
 abbrev pub starting : Rules → Stmt → List BenchFault
 starting r x = (begun r x).starting
+
+-- For proofs alone.
+
+abbrev pub item_waits : CaseItem → Bool
+item_waits = fold-CaseItem Bool Bool waits_step item_step

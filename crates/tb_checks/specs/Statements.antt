@@ -151,5 +151,7 @@ item_step i = record { labels = i.labels; body = i.body }
 abbrev pub stmt_faults : Rules → Stmt → List BenchFault
 stmt_faults r = fold-Stmt (List BenchFault) ItemFaults (stmt_step r) item_step
 
+-- For proofs alone.
+
 abbrev pub item_faults : Rules → CaseItem → ItemFaults
 item_faults r = fold-CaseItem (List BenchFault) ItemFaults (stmt_step r) item_step

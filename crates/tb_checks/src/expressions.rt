@@ -1,44 +1,29 @@
-//! What is wrong in the expressions of a testbench, each at the width and sign at which it is evaluated.
-ghost use Rattle.std.specs.Prelude.{◌≡◌, ◌++◌};
+//! What is wrong in the expressions of a testbench.
+ghost use Rattle.std.specs.Prelude.{◌≡◌};
 ghost use Rattle.vlog_meaning.specs.Answers.{least};
 ghost use Rattle.vlog_meaning.specs.Scopes.{names_of};
-ghost use Rattle.tb_checks.specs.Expressions.{wrong, own_faults, sides_faults};
+ghost use Rattle.tb_checks.specs.Expressions.{not_supported, own_faults};
 
 use crate::features::feature_in;
-use vlog_meaning::{Fault, Scope, Shape, earlier, fault_in, shape_of, zero_in};
+use vlog_meaning::{Fault, Scope};
+use vlog_refusals::Purpose;
 use vlog_syntax::Expr;
 
-/// What is wrong in an expression, or not supported in it.
-pub(crate) fn wrong_in(expr: &Expr, scope: &Scope) -> Option<Fault>
-    ensures { result ≡ least (wrong (names_of scope.now) expr.now) }
-{
-    earlier(fault_in(expr, scope), feature_in(expr, scope))
+/// Expressions that a testbench evaluates.
+#[derive(Clone, Copy)]
+pub(crate) struct Values;
+
+impl Purpose for Values {
+    ghost unsupported = { λ names x. not_supported names x };
+
+    fn unsupported_in(self, expr: &Expr, scope: &Scope) -> Option<Fault> {
+        feature_in(expr, scope)
+    }
 }
 
 /// What is wrong in an expression that stands for itself, as a condition does.
 pub fn own_fault(expr: &Expr, scope: &Scope) -> Option<Fault>
     ensures { result ≡ least (own_faults (names_of scope.now) expr.now) }
 {
-    match wrong_in(expr, scope) {
-        Some(fault) => Some(fault),
-        None => zero_in(expr, scope, shape_of(expr, scope)),
-    }
-}
-
-/// What is wrong in the sides of an assignment, of which the left one is given as the expression of its form.
-pub(crate) fn sides_fault(left: &Expr, right: &Expr, scope: &Scope) -> Option<Fault>
-    ensures { result ≡ least (sides_faults (names_of scope.now) left.now right.now) }
-{
-    match earlier(wrong_in(left, scope), wrong_in(right, scope)) {
-        Some(fault) => Some(fault),
-        None => {
-            let to = shape_of(left, scope);
-            let own = shape_of(right, scope);
-            let context = Shape {
-                width: own.width.max(to.width),
-                is_signed: own.is_signed,
-            };
-            earlier(zero_in(left, scope, to), zero_in(right, scope, context))
-        }
-    }
+    vlog_refusals::own_fault(Values, expr, scope)
 }

@@ -6,7 +6,6 @@
 //! In its proofs `Layers` has a statement's faults from those of its parts, and `Arms` the first one of each kind of statement.
 #![tactic(auto)]
 
-mod cases;
 mod controls;
 mod expressions;
 mod features;

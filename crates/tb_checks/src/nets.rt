@@ -5,7 +5,7 @@ ghost use Rattle.vlog_meaning.specs.Scopes.{names_of};
 ghost use Rattle.tb_checks.specs.Nets.{net_wrong, value_faults, form_faults, net_faults, assign_faults};
 ghost use Rattle.tb_faults.specs.Order.{IsFirst};
 
-use crate::expressions::wrong_in;
+use crate::expressions::Values;
 use crate::indices::indices_fault;
 use crate::lefts::names_fault;
 use crate::randoms::random_in;
@@ -13,13 +13,14 @@ use elab_proc::same_form;
 use std::alloc::{AllocError, Global};
 use tb_faults::{BenchFault, earlier as sooner, wrong};
 use vlog_meaning::{Fault, Scope, Shape, earlier, fault_in, shape_of, zero_in};
+use vlog_refusals::wrong_in;
 use vlog_syntax::{Expr, LeftSide};
 
 /// What is wrong in an expression of a net.
 fn net_wrong_in(expr: &Expr, scope: &Scope) -> Option<Fault>
     ensures { result ≡ least (net_wrong (names_of scope.now) expr.now) }
 {
-    earlier(wrong_in(expr, scope), random_in(expr))
+    earlier(wrong_in(Values, expr, scope), random_in(expr))
 }
 
 /// What is wrong in the value of a net of so many bits.

@@ -10,7 +10,7 @@ ghost use Rattle.tb_checks.specs.Starts.{start_value, signal_width, clock_width,
 ghost use Rattle.tb_checks.specs.Statements.{stmt_faults};
 ghost use Rattle.tb_checks.specs.Views.{rules_in};
 
-use crate::expressions::sides_fault;
+use crate::expressions::Values;
 use crate::lefts::is_clock;
 use crate::statements::{StatementRules, statement_fault};
 use crate::waiting::waits;
@@ -19,6 +19,7 @@ use mcy_base::Span;
 use std::alloc::AllocError;
 use tb_faults::{BenchFault, earlier};
 use vlog_meaning::{Decl, Scope, constant_at};
+use vlog_refusals::sides_fault;
 use vlog_syntax::{Assignment, Expr, Feature, Identifier, LeftSide, Stmt};
 
 /// The width of a signal.
@@ -75,7 +76,7 @@ fn start_fault(
     ensures { IfOk result (λ o. (elsewhere : List Reason) → IsFirst (start_faults (rules_in rules.now) assignment.now (Some width) elsewhere) o) }
 {
     let left = same_form(rules.alloc, &assignment.left)?;
-    match sides_fault(&left, assignment.value.get(), rules.scope) {
+    match sides_fault(Values, &left, assignment.value.get(), rules.scope) {
         Some(fault) => Ok(Some(BenchFault::Wrong(fault))),
         None => Ok(start_value(
             assignment.left.first_token(),

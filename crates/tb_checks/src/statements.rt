@@ -3,7 +3,7 @@ ghost use Rattle.std.specs.Prelude.{◌++◌, ◌∷◌, List, map, IfOk};
 ghost use Rattle.std.specs.List.{flat_map};
 ghost use Rattle.vlog_syntax.specs.declared.stmt.CaseItem.{CaseItem as Item};
 ghost use Rattle.vlog_syntax.specs.declared.stmt.Stmt.{Stmt as Statement};
-ghost use Rattle.elab_proc.specs.Refusals.{labels_in};
+ghost use Rattle.vlog_refusals.specs.Cases.{labels_in};
 ghost use Rattle.tb_faults.specs.declared.fault.BenchFault.{BenchFault as Reason};
 ghost use Rattle.tb_faults.specs.declared.fault.BenchFault.TheVariants.{Wrong};
 ghost use Rattle.tb_checks.specs.Expressions.{case_faults};
@@ -11,15 +11,15 @@ ghost use Rattle.tb_faults.specs.Order.{IsFirst};
 ghost use Rattle.tb_checks.specs.Statements.{test_faults, assignment_faults, stmt_faults, item_faults};
 ghost use Rattle.tb_checks.specs.Views.{rules_in};
 
-use crate::cases::case_fault;
 use crate::controls::control_fault;
-use crate::expressions::sides_fault;
+use crate::expressions::Values;
 use crate::lefts::names_fault;
 use crate::tasks::{task_fault, test_fault};
 use elab_proc::same_form;
 use std::alloc::{AllocError, Global};
 use tb_faults::{BenchFault, earlier, wrong};
 use vlog_meaning::Scope;
+use vlog_refusals::{case_fault, sides_fault};
 use vlog_syntax::{Assignment, CaseItem, Expr, Feature, Stmt};
 
 /// On what the faults of statements rest: the names that they see, the name of the clock where there is a clock generator, and
@@ -40,7 +40,7 @@ pub(crate) fn assignment_fault(
     ensures { IfOk result (λ o. IsFirst (assignment_faults (rules_in rules.now) assignment.now) o) }
 {
     let left = same_form(rules.alloc, &assignment.left)?;
-    let sides = wrong(sides_fault(&left, assignment.value.get(), rules.scope));
+    let sides = wrong(sides_fault(Values, &left, assignment.value.get(), rules.scope));
     let names = names_fault(&assignment.left, rules.scope, rules.clock);
     Ok(earlier(sides, names))
 }
@@ -144,7 +144,7 @@ fn case_statement_fault(
 ) -> Result<Option<BenchFault>, AllocError>
     ensures { IfOk result (λ o. IsFirst (map Wrong (case_faults (rules_in rules.now).names (selector.now ∷ flat_map labels_in items.now)) ++ flat_map (λ (i : Item). (item_faults (rules_in rules.now) i).body) items.now) o) }
 {
-    let first = wrong(case_fault(selector, items, rules.scope));
+    let first = wrong(case_fault(Values, selector, items, rules.scope));
     let later = items_fault(rules, items)?;
     Ok(earlier(first, later))
 }

@@ -1,19 +1,7 @@
 -- What the labels of each item have, from what all labels have.
-use Rattle.std.proofs.Common.{◌≡◌, zero, suc, ℕ, ◌<◌, List, [], ◌∷◌, ◌++◌, map, refl, ap, subst, sym, ◌∙◌, arith, length, get_or, slice_index_or}
-use Rattle.std.specs.List.{All, flat_map}
-use Rattle.vlog_syntax.specs.declared.expr.Expr.{Expr}
-use Rattle.vlog_meaning.specs.declared.shapes.Shape.{Shape}
-use Rattle.vlog_meaning.specs.Scopes.{Names}
+use Rattle.tb_choices.proofs.Common.{◌≡◌, zero, suc, ℕ, ◌<◌, List, [], ◌∷◌, ◌++◌, map, refl, ap, subst, sym, ◌∙◌, arith, length, get_or, slice_index_or, All, flat_map, Expr, Shape, Names, AllWithin}
+use Rattle.tb_choices.proofs.Common.{within_left, within_right, Choice, choice_labels, LabelsWhole}
 use Rattle.vlog_meaning.specs.Senses.{IsWhole}
-use Rattle.elab_proc.specs.Sizes.{AllWithin}
-use Rattle.elab_proc.proofs.CaseLemmas.{within_right}
-use Rattle.tb_machine.specs.declared.node.Choice.{Choice}
-use Rattle.tb_machine.specs.Nodes.{choice_labels}
-use Rattle.tb_choices.specs.Choices.{LabelsWhole}
-
--- the expression at a place
-pub whole_at : (names : Names) (xs : List Expr) (k : ℕ) (x : Expr) → x ≡ get_or xs k x → k < length xs → All (IsWhole names) xs → IsWhole names x
-whole_at names xs k x is h all = subst (IsWhole names) (sym is) (all k x h)
 
 map_at : {A B : Type 0} (f : A → B) (xs : List A) (k : ℕ) (x : A) → x ≡ get_or xs k x → k < length xs → f x ≡ slice_index_or (map f xs) k (f x)
 map_at f [] k x is h = absurd (omega arith)
@@ -28,10 +16,6 @@ map_long f (y ∷ ys) (suc k) h = let r = map_long f ys k (omega arith) in omega
 -- the labels of the item at a place
 pub labels_whole_at : (names : Names) (is : List Choice) (k : ℕ) (i : Choice) (ls : List Expr) → i ≡ get_or is k i → k < length is → ls ≡ choice_labels i → LabelsWhole names (map choice_labels is) → All (IsWhole names) ls
 labels_whole_at names is k i ls at h l all = subst (All (IsWhole names)) (sym (l ∙ map_at choice_labels is k i at h)) (all k (choice_labels i) (map_long choice_labels is k h))
-
-within_left : (names : Names) (size : Shape) (xs ys : List Expr) → AllWithin names size (xs ++ ys) → AllWithin names size xs
-within_left names size [] ys a = tt
-within_left names size (x ∷ xs) ys a = (a.0, within_left names size xs ys a.1)
 
 pub labels_within_at : (names : Names) (size : Shape) (is : List Choice) (k : ℕ) (i : Choice) (ls : List Expr) → i ≡ get_or is k i → k < length is → ls ≡ choice_labels i → AllWithin names size (flat_map choice_labels is) → AllWithin names size ls
 labels_within_at names size [] k i ls at h l a = absurd (omega arith)

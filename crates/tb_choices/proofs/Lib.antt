@@ -1,3 +1,3 @@
+mod Common
 pub mod Labels
-pub mod Widening
 pub mod Matches

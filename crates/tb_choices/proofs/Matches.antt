@@ -1,17 +1,12 @@
 -- One label, and one item, further in a search for the first that matches.
-use Rattle.std.proofs.Common.{◌≡◌, ℕ, ◌+◌, ◌<◌, ◌≤◌, Bool, true, false, List, ◌∷◌, map, refl, ap, sym, ◌∙◌, length, get_or, drop, Option, None, Some}
+use Rattle.tb_choices.proofs.Common.{◌≡◌, ℕ, ◌+◌, ◌<◌, ◌≤◌, Bool, true, false, List, ◌∷◌, map, refl, ap, sym, ◌∙◌, length, get_or, drop, Option, None, Some, Expr, Shape, Names, Store, Choice}
+use Rattle.tb_choices.proofs.Common.{choice_labels, Matching, agrees, one_matches, first_match, default_item, or_default, case_size, chosen}
 use Rattle.std.specs.Prelude.{if◌then◌else◌}
 use Rattle.std.proofs.lemmas.List.{drop_more, drop_all}
 use Rattle.rand_pcg.specs.Lcg.{Lcg}
-use Rattle.vlog_syntax.specs.declared.expr.Expr.{Expr}
 use Rattle.vlog_syntax.specs.declared.stmt.CaseKind.{CaseKind}
-use Rattle.vlog_meaning.specs.declared.shapes.Shape.{Shape}
-use Rattle.vlog_meaning.specs.Scopes.{Names, Store}
 use Rattle.vlog_effects.specs.Steps.{dont_care}
 use Rattle.tb_values.specs.Values.{evaluated}
-use Rattle.tb_machine.specs.declared.node.Choice.{Choice}
-use Rattle.tb_machine.specs.Nodes.{choice_labels}
-use Rattle.tb_choices.specs.Choices.{Matching, agrees, one_matches, first_match, default_item, or_default, case_size, chosen}
 
 pub if_true : {A : Type 0} (b : Bool) (x y : A) → b ≡ true → (if b then x else y) ≡ x
 if_true true x y e = refl

@@ -9,7 +9,7 @@ use Rattle.vlog_meaning.specs.declared.shapes.Shape.{Shape}
 use Rattle.vlog_meaning.specs.Scopes.{Names, Store}
 use Rattle.vlog_meaning.specs.Senses.{IsWhole}
 use Rattle.vlog_effects.specs.Steps.{dont_care}
-use Rattle.elab_proc.specs.Refusals.{common_size}
+use Rattle.vlog_refusals.specs.Cases.{common_size}
 use Rattle.tb_values.specs.Values.{evaluated}
 
 -- what an evaluation goes by: the phase, the kind of the case, the values of the signals, and the size

@@ -3,14 +3,14 @@ ghost use Rattle.std.specs.Prelude.{◌≡◌, IfOk};
 ghost use Rattle.std.specs.List.{All};
 ghost use Rattle.vlog_meaning.specs.Scopes.{names_of, store_of, FitsSignals};
 ghost use Rattle.vlog_meaning.specs.Senses.{IsWhole};
-ghost use Rattle.elab_proc.specs.Sizes.{AllWithin};
+ghost use Rattle.vlog_refusals.specs.Cases.{AllWithin};
 ghost use Rattle.tb_choices.specs.Choices.{agrees, one_matches};
 
-use elab_proc::dont_care;
 use rand_pcg::Lcg64Xsh32;
 use std::alloc::AllocError;
 use tb_values::{Moment, evaluate};
 use vlog_meaning::Shape;
+use vlog_refusals::dont_care;
 use vlog_syntax::{CaseKind, Expr};
 
 /// Whether a label has the selector's bits, but for those that are no matter.

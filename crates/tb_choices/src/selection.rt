@@ -3,7 +3,7 @@ ghost use Rattle.std.specs.Prelude.{◌≡◌, IfOk, map};
 ghost use Rattle.std.specs.List.{flat_map};
 ghost use Rattle.vlog_meaning.specs.Scopes.{names_of, store_of, FitsSignals};
 ghost use Rattle.vlog_meaning.specs.Senses.{IsWhole};
-ghost use Rattle.elab_proc.specs.Sizes.{AllWithin};
+ghost use Rattle.vlog_refusals.specs.Cases.{AllWithin};
 ghost use Rattle.tb_machine.specs.Nodes.{choice_labels};
 ghost use Rattle.tb_choices.specs.Choices.{chosen, first_match, default_item, LabelsWhole};
 

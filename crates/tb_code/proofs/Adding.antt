@@ -1,12 +1,6 @@
 -- What is added to nodes in two steps, and in none.
-use Rattle.std.proofs.Common.{◌≡◌, ℕ, ◌+◌, ◌<◌, List, [], ◌∷◌, ◌++◌, map, length, get_or, take, All, None, Some, refl, ◌∙◌, arith, append_assoc, append-nil, length-append}
-use Rattle.std.proofs.lemmas.List.{map-append, take_more}
-use Rattle.std.proofs.lemmas.List.Elements.{All-nil, All-append, All-weaker}
-use Rattle.vlog_syntax.specs.declared.stmt.Stmt.{Stmt}
-use Rattle.tb_machine.specs.declared.node.Node.{Node}
-use Rattle.tb_machine.specs.Nodes.{tree_of, PartsBelow}
-use Rattle.tb_code.specs.Codes.{IsWhole, Holds, Adds, AreCodeOf}
-use Rattle.tb_code.specs.Tests.{Tests, Passes, NodePasses}
+use Rattle.tb_code.proofs.Common.{◌≡◌, ℕ, ◌+◌, ◌<◌, List, [], ◌∷◌, ◌++◌, map, length, get_or, take, All, None, Some, refl, ◌∙◌, arith, append_assoc, append-nil, length-append, map-append, take_more}
+use Rattle.tb_code.proofs.Common.{All-nil, All-append, All-weaker, Stmt, Node, tree_of, PartsBelow, IsWhole, Holds, Adds, AreCodeOf, Tests, Passes, NodePasses}
 use Rattle.tb_code.proofs.Trees.{trees-front, all-front, all-behind}
 
 pub adds_none : (nodes : List Node) → Adds nodes nodes [] []

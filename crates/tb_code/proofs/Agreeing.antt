@@ -1,12 +1,7 @@
 -- What a node does rests on the statements at its parts alone.
-use Rattle.std.proofs.Common.{◌≡◌, ℕ, zero, suc, ◌<◌, ◌≤◌, List, [], ◌∷◌, ◌++◌, map, Option, Some, None, All, refl, ap, arith}
-use Rattle.std.proofs.lemmas.List.Elements.{All-head, All-tail, All-weaker}
-use Rattle.tb_machine.specs.declared.node.Choice.{Choice}
-use Rattle.tb_machine.specs.declared.node.Node.{Node}
+use Rattle.tb_code.proofs.Common.{◌≡◌, ℕ, zero, suc, ◌<◌, ◌≤◌, List, [], ◌∷◌, ◌++◌, map, Option, Some, None, All, refl, ap, arith, All-head, All-tail, All-weaker, Choice, Node, World, Meaning, Work}
+use Rattle.tb_code.proofs.Common.{Do, Goes, Tree, node_step, optional_do, choice_at, choice_do, choice_labels, BodyBelow, PartsBelow}
 use Rattle.tb_machine.specs.declared.node.Node.TheVariants as n
-use Rattle.tb_machine.specs.Worlds.{World}
-use Rattle.tb_machine.specs.Steps.{Meaning, Work, Do, Goes}
-use Rattle.tb_machine.specs.Nodes.{Tree, node_step, optional_do, choice_at, choice_do, choice_labels, BodyBelow, PartsBelow}
 
 -- two trees that agree below a limit
 abbrev pub Agree : ℕ → Tree → Tree → Type 0

@@ -1,27 +1,17 @@
 -- The node of each kind of statement, behind those of its parts.
-use Rattle.std.proofs.Common.{◌≡◌, ℕ, zero, suc, ◌<◌, Bool, true, false, ◌&&◌, List, [], ◌∷◌, ◌++◌, map, drop, get_or, Option, Some, None, All, codes, refl, sym, ap, ◌∙◌, if◌then◌else◌}
-use Rattle.std.proofs.lemmas.List.Elements.{All-head, All-tail, All-nil, All-cons}
+use Rattle.tb_code.proofs.Common.{◌≡◌, ℕ, zero, suc, ◌<◌, Bool, true, false, ◌&&◌, List, [], ◌∷◌, ◌++◌, map, drop, get_or, Option, Some, None, All, codes, refl, sym, ap, ◌∙◌, if◌then◌else◌, All-head}
+use Rattle.tb_code.proofs.Common.{All-tail, All-nil, All-cons, Identifier, Argument, CaseItem, Stmt, out-Stmt, roll-Stmt, out-roll-Stmt, Stmt-F, Choice, Node, World, Meaning, Work, Do, Goes, execute}
+use Rattle.tb_code.proofs.Common.{item_at, body_of, labels_of, event_of, Tree, node_step, choice_at, choice_do, choice_labels, PartsBelow, Adds, Pushed, part_of, part_number, Tests, all_of}
+use Rattle.tb_code.proofs.Common.{passes_step, passes, item_passes, Passes, all_labels_pass, NodePasses}
 use Rattle.std.specs.Str.{bytes_eq}
 use Rattle.mcy_base.specs.declared.span.Span.{Span}
 use Rattle.vlog_syntax.specs.declared.expr.Expr.{Expr}
-use Rattle.vlog_syntax.specs.declared.identifier.Identifier.{Identifier}
-use Rattle.vlog_syntax.specs.declared.stmt.Argument.{Argument}
 use Rattle.vlog_syntax.specs.declared.stmt.Assignment.{Assignment}
-use Rattle.vlog_syntax.specs.declared.stmt.CaseItem.{CaseItem}
 use Rattle.vlog_syntax.specs.declared.stmt.CaseKind.{CaseKind}
 use Rattle.vlog_syntax.specs.declared.stmt.EventControl.{EventControl}
-use Rattle.vlog_syntax.specs.declared.stmt.Stmt.{Stmt, out-Stmt, roll-Stmt, out-roll-Stmt}
 use Rattle.vlog_syntax.specs.declared.stmt.Stmt.TheOpen as s
-use Rattle.vlog_syntax.specs.declared.stmt.Stmt.TheOpen.{Stmt-F}
 use Rattle.vlog_syntax.specs.declared.stmt.Stmt.TheVariants as t
-use Rattle.tb_machine.specs.declared.node.Choice.{Choice}
-use Rattle.tb_machine.specs.declared.node.Node.{Node}
 use Rattle.tb_machine.specs.declared.node.Node.TheVariants as n
-use Rattle.tb_machine.specs.Worlds.{World}
-use Rattle.tb_machine.specs.Steps.{Meaning, Work, Do, Goes, execute, item_at, body_of, labels_of, event_of}
-use Rattle.tb_machine.specs.Nodes.{Tree, node_step, choice_at, choice_do, choice_labels, PartsBelow}
-use Rattle.tb_code.specs.Codes.{Adds, Pushed, part_of, part_number}
-use Rattle.tb_code.specs.Tests.{Tests, all_of, passes_step, passes, item_passes, Passes, all_labels_pass, NodePasses}
 use Rattle.tb_code.proofs.Passing.{inside, passes-layer, both, loop-passes, task-passes, block-passes, items-pass}
 use Rattle.tb_code.proofs.Adding.{adds_none, adds_both}
 use Rattle.tb_code.proofs.Pushing.{IsNodeOf, adds_push}

@@ -1,17 +1,9 @@
 -- Where all in a statement passes tests: what it holds itself does, and all in its parts.
-use Rattle.std.proofs.Common.{◌≡◌, Bool, true, false, ◌&&◌, ◌||◌, List, [], ◌∷◌, map, All, codes, refl, sym, ap, ◌∙◌, if◌then◌else◌}
-use Rattle.std.proofs.lemmas.List.Elements.{All-nil, All-cons}
+use Rattle.tb_code.proofs.Common.{◌≡◌, Bool, true, false, ◌&&◌, ◌||◌, List, [], ◌∷◌, map, All, codes, refl, sym, ap, ◌∙◌, if◌then◌else◌, All-nil, All-cons, Identifier, Argument, CaseItem, Stmt}
+use Rattle.tb_code.proofs.Common.{roll-Stmt, Stmt-F, labels_of, part_of, Tests, all_of, labels_pass, task_passes, passes_step, item_step, passes, item_passes, Passes, all_labels_pass, NodePasses}
 use Rattle.std.specs.Str.{bytes_eq}
-use Rattle.vlog_syntax.specs.declared.identifier.Identifier.{Identifier}
-use Rattle.vlog_syntax.specs.declared.stmt.Argument.{Argument}
-use Rattle.vlog_syntax.specs.declared.stmt.CaseItem.{CaseItem}
-use Rattle.vlog_syntax.specs.declared.stmt.Stmt.{Stmt, roll-Stmt}
-use Rattle.vlog_syntax.specs.declared.stmt.Stmt.TheOpen.{Stmt-F}
 use Rattle.vlog_syntax.specs.declared.stmt.Stmt.TheFolds.{fold-roll-Stmt, fold_out-CaseItem, map-Stmt}
 use Rattle.tb_machine.specs.declared.node.Node.TheVariants as n
-use Rattle.tb_machine.specs.Steps.{labels_of}
-use Rattle.tb_code.specs.Codes.{part_of}
-use Rattle.tb_code.specs.Tests.{Tests, all_of, labels_pass, task_passes, passes_step, item_step, passes, item_passes, Passes, all_labels_pass, NodePasses}
 
 -- a layer, with the answers for its parts
 abbrev pub inside : Tests → Stmt-F Stmt CaseItem → Stmt-F Bool Bool

@@ -1,15 +1,7 @@
 -- One node more, which does what its statement does where its parts stand.
-use Rattle.std.proofs.Common.{◌≡◌, ℕ, ◌+◌, ◌<◌, ◌≤◌, inl, inr, List, [], ◌∷◌, ◌++◌, map, length, Some, slice_get, All, sym, ap, ◌∙◌, arith, append_assoc}
-use Rattle.std.proofs.lemmas.List.{length_push}
-use Rattle.std.proofs.lemmas.List.Elements.{All-nil, All-cons, All-head, All-push, All-weaker}
-use Rattle.std.proofs.lemmas.Option.{slice_get_within}
-use Rattle.vlog_syntax.specs.declared.stmt.Stmt.{Stmt, out-Stmt}
-use Rattle.tb_machine.specs.declared.node.Node.{Node}
-use Rattle.tb_machine.specs.Worlds.{World}
-use Rattle.tb_machine.specs.Steps.{Meaning, Work, execute}
-use Rattle.tb_machine.specs.Nodes.{Tree, tree_of, node_step, PartsBelow}
-use Rattle.tb_code.specs.Codes.{IsWhole, Holds, Adds, Pushed}
-use Rattle.tb_code.specs.Tests.{Tests, Passes, NodePasses}
+use Rattle.tb_code.proofs.Common.{◌≡◌, ℕ, ◌+◌, ◌<◌, ◌≤◌, inl, inr, List, [], ◌∷◌, ◌++◌, map, length, Some, slice_get, All, sym, ap, ◌∙◌, arith, append_assoc, length_push, All-nil, All-cons, All-head}
+use Rattle.tb_code.proofs.Common.{All-push, All-weaker, slice_get_within, Stmt, out-Stmt, Node, World, Meaning, Work, execute, Tree, tree_of, node_step, PartsBelow, IsWhole, Holds, Adds, Pushed}
+use Rattle.tb_code.proofs.Common.{Tests, Passes, NodePasses}
 use Rattle.tb_code.proofs.Trees.{tree-front, tree-last, trees-front, get-push, all-get, all-front, all-behind}
 use Rattle.tb_code.proofs.Agreeing.{step_agrees, parts_below}
 

@@ -1,9 +1,6 @@
 -- Lists that become longer keep what stands in them.
-use Rattle.std.proofs.Common.{◌≡◌, ℕ, zero, suc, ◌<◌, ◌⊎◌, inl, inr, List, [], ◌∷◌, ◌++◌, map, length, Some, None, slice_get, All, refl, arith}
-use Rattle.std.proofs.lemmas.List.Elements.{All-nil, All-cons, All-head, All-tail, All-get_or}
-use Rattle.std.proofs.lemmas.Option.{slice_get_within, get_or_from_slice_get}
-use Rattle.vlog_syntax.specs.declared.stmt.Stmt.{Stmt}
-use Rattle.tb_machine.specs.Nodes.{tree_of}
+use Rattle.tb_code.proofs.Common.{◌≡◌, ℕ, zero, suc, ◌<◌, ◌⊎◌, inl, inr, List, [], ◌∷◌, ◌++◌, map, length, Some, None, slice_get, All, refl, arith, All-nil, All-cons, All-head, All-tail, All-get_or}
+use Rattle.tb_code.proofs.Common.{slice_get_within, get_or_from_slice_get, Stmt, tree_of}
 
 pub tree-front : (trees more : List Stmt) (k : ℕ) → k < length trees → tree_of (trees ++ more) k ≡ tree_of trees k
 tree-front [] more k h = absurd (omega arith)

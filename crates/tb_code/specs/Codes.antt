@@ -30,6 +30,16 @@ pub record Holds (trees : List Stmt) (nodes : List Node) (numbers : List ℕ) (p
 abbrev pub Adds : (before after : List Node) (numbers : List ℕ) (parts : List Stmt) → Type 0
 Adds before after numbers parts = (trees : List Stmt) → IsWhole before trees → Holds trees after numbers parts
 
+-- a process that waits for an event, and then carries out a statement
+abbrev pub waiting : Event → Stmt → Suspended
+waiting event x = record { event = event; work = Do x ∷ [] }
+
+-- What nodes that were added to none say: there are statements of which they are code, and at the numbers stand the parts.
+abbrev pub AreCodeOf : Type 0
+AreCodeOf = (nodes : List Node) (numbers : List ℕ) (parts : List Stmt) → Adds [] nodes numbers parts → Holds [] nodes numbers parts
+
+-- For proofs alone.
+
 -- one node more, with its number
 abbrev pub Pushed : List Node → Node → List Node → ℕ → Type 0
 Pushed before node after number = (after ≡ before ++ node ∷ []) × (number ≡ length before)
@@ -40,11 +50,3 @@ part_of x = (out-CaseItem x).body
 
 abbrev pub part_number : Choice → ℕ
 part_number x = x.body
-
--- a process that waits for an event, and then carries out a statement
-abbrev pub waiting : Event → Stmt → Suspended
-waiting event x = record { event = event; work = Do x ∷ [] }
-
--- What nodes that were added to none say: there are statements of which they are code, and at the numbers stand the parts.
-abbrev pub AreCodeOf : Type 0
-AreCodeOf = (nodes : List Node) (numbers : List ℕ) (parts : List Stmt) → Adds [] nodes numbers parts → Holds [] nodes numbers parts

@@ -56,9 +56,6 @@ item_step t i = labels_pass t i.labels && i.body
 abbrev pub passes : Tests → Stmt → Bool
 passes t = fold-Stmt Bool Bool (passes_step t) (item_step t)
 
-abbrev pub item_passes : Tests → CaseItem → Bool
-item_passes t = fold-CaseItem Bool Bool (passes_step t) (item_step t)
-
 abbrev pub Passes : Tests → Stmt → Type 0
 Passes t x = passes t x ≡ true
 
@@ -81,3 +78,8 @@ node_passes t other = true
 
 abbrev pub NodePasses : Tests → Node → Type 0
 NodePasses t node = node_passes t node ≡ true
+
+-- For proofs alone.
+
+abbrev pub item_passes : Tests → CaseItem → Bool
+item_passes t = fold-CaseItem Bool Bool (passes_step t) (item_step t)

@@ -5,15 +5,8 @@ use Rattle.netlist_core.specs.declared.port.Port.{Port}
 use Rattle.vlog_meaning.specs.Scopes.{Names, with_name}
 use Rattle.tb_items.specs.declared.design.Design.{Design}
 use Rattle.tb_items.specs.Designs.{hidden_name, port_sign}
-use Rattle.tb_items.specs.declared.item.BenchItem.{BenchItem}
 use Rattle.tb_signals.specs.Tables.{hidden_decl}
 use Rattle.tb_contents.specs.Hidden.{hidden_names, numbers_from}
-use Rattle.tb_contents.specs.Starts.{item_start, started}
-
--- the next item
-pub started_next : (names : Names) (widths values : List ℕ) (items : List BenchItem) (i : ℕ) (item : BenchItem) → i < length items → item ≡ get_or items i item → started names widths values (drop i items) ≡ started names widths (item_start names widths values item) (drop (i + 1) items)
-started_next names widths values items i item h is =
-    ap (started names widths values) (drop_more items i item h ∙ ap (λ x. x ∷ drop (i + 1) items) (sym is))
 
 -- the next port
 pub named_next : (d : Design) (instance : List ℕ) (names : Names) (n : ℕ) (ports : List Port) (i : ℕ) (p : Port) → i < length ports → p ≡ get_or ports i p → hidden_names d instance names n (drop i ports) ≡ hidden_names d instance (with_name names (hidden_name instance p.name) (hidden_decl (length p.bits) (port_sign d p.name) n)) (n + 1) (drop (i + 1) ports)

@@ -1,18 +1,8 @@
 -- What is evaluated in a scene, in its world.
-use Rattle.std.proofs.Common.{◌≡◌, ℕ, List, map, ap, sym, ◌∙◌, subst}
-use Rattle.std.specs.List.{All}
-use Rattle.std.proofs.lemmas.List.Elements.{All-map}
-use Rattle.rand_pcg.specs.Lcg.{Lcg}
-use Rattle.vlog_meaning.specs.Scopes.{Names, Store}
+use Rattle.tb_evaluator.proofs.Common.{◌≡◌, ℕ, List, map, ap, sym, ◌∙◌, subst, All, All-map, Lcg, Names, Store, Update, World, Fits, choice_labels, AreKnown, LabelsWhole, AreOfSignals, store_in}
+use Rattle.tb_evaluator.proofs.Common.{in_world, HasSignals}
 use Rattle.vlog_meaning.specs.Senses.{IsWhole}
 use Rattle.tb_machine.specs.declared.node.Choice.{Choice}
-use Rattle.tb_machine.specs.declared.update.Update.{Update}
-use Rattle.tb_machine.specs.Worlds.{World, Fits}
-use Rattle.tb_machine.specs.Nodes.{choice_labels}
-use Rattle.tb_machine.specs.Known.{AreKnown}
-use Rattle.tb_choices.specs.Choices.{LabelsWhole}
-use Rattle.tb_assigns.specs.Laws.{AreOfSignals}
-use Rattle.tb_evaluator.specs.Meanings.{store_in, in_world, HasSignals}
 use Rattle.tb_evaluator.proofs.Served.{updates_fit}
 
 pub evaluated_in : {A : Type 0} (f : Names → ℕ → Store → Lcg → A × Lcg) (n m : Names) (p q : ℕ) (store : Store) (w v : World) (g h : Lcg) (a : A) → m ≡ n → q ≡ p → store ≡ store_in w → g ≡ w.words → (a, h) ≡ f m q store g → v ≡ record w { words = h } → (a, v) ≡ in_world w (f n p (store_in w) w.words)

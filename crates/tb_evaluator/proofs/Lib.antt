@@ -1,3 +1,4 @@
+mod Common
 pub mod Served
 pub mod Evaluating
 pub mod Planning

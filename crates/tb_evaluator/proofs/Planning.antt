@@ -1,33 +1,21 @@
 -- What plans come to in a scene, in its world.
-use Rattle.std.proofs.Common.{◌≡◌, ℕ, Bool, not, ◌==◌, List, Option, Some, ap, sym, ◌∙◌, subst}
-use Rattle.std.specs.List.{All}
-use Rattle.rand_pcg.specs.Lcg.{Lcg}
+use Rattle.tb_evaluator.proofs.Common.{◌≡◌, ℕ, Bool, not, ◌==◌, List, Option, Some, ap, sym, ◌∙◌, subst, All, Lcg, Names, Store, Update, Test, Choose, Assign, World, assigned, scheduled, Fits}
+use Rattle.tb_evaluator.proofs.Common.{AreOfSignals, all_fit, chosen, formula_value, condition_in, choice_in, writing_in, condition, store_in, in_world, meaning, CanAnswer, HasSignals}
 use Rattle.vlog_syntax.specs.declared.expr.Expr.{Expr}
 use Rattle.vlog_syntax.specs.declared.stmt.Assignment.{Assignment}
 use Rattle.vlog_syntax.specs.declared.stmt.CaseKind.{CaseKind}
-use Rattle.vlog_meaning.specs.Scopes.{Names, Store}
 use Rattle.tb_machine.specs.declared.node.Part.{Part}
-use Rattle.tb_machine.specs.declared.update.Update.{Update}
-use Rattle.tb_machine.specs.Known.{Test, Choose, Assign}
 use Rattle.tb_machine.specs.Steps.{assign}
-use Rattle.tb_machine.specs.Worlds.{World, assigned, scheduled, Fits}
-use Rattle.tb_assigns.specs.Laws.{AreOfSignals}
 use Rattle.tb_assigns.specs.Updates.{updates}
-use Rattle.tb_assigns.proofs.Fitting.{all_fit}
-use Rattle.tb_choices.specs.Choices.{chosen}
 use Rattle.tb_formulas.specs.declared.formula.Formula.{Formula}
-use Rattle.tb_formulas.specs.Formulas.{formula_value}
 use Rattle.tb_plans.specs.declared.plan.Plan.{Plan}
 use Rattle.tb_plans.specs.declared.selection.Selection.{Selection}
 use Rattle.tb_plans.specs.declared.transfer.Draw.{Draw}
 use Rattle.tb_plans.specs.declared.transfer.Transfer.{Transfer}
 use Rattle.tb_plans.specs.declared.transfer.Writing.{Writing}
 use Rattle.tb_plans.specs.declared.transfer.Writing.TheVariants as p
-use Rattle.tb_plans.specs.Plans.{condition_in, choice_in, writing_in}
 use Rattle.tb_plans.specs.Selections.{IsConditionOf, IsSelectionOf, OfCondition, OfChoice, selection_taken}
 use Rattle.tb_plans.specs.Transfers.{IsWritingOf, OfWriting, transfer_updates, draw_updates}
-use Rattle.tb_values.specs.Values.{condition}
-use Rattle.tb_evaluator.specs.Meanings.{store_in, in_world, meaning, CanAnswer, HasSignals}
 use Rattle.tb_evaluator.specs.Planned.{writing_updates, WritingFits}
 use Rattle.tb_evaluator.proofs.Served.{updates_fit}
 

@@ -1,16 +1,12 @@
 -- Scenes that have the declared signals.
-use Rattle.std.proofs.Common.{◌≡◌, ℕ, zero, suc, ◌+◌, ◌<◌, ◌≤◌, ◌^◌, List, [], ◌∷◌, map, slice_index, slice_get, Option, Some, None, refl, ap, sym, ◌∙◌, arith}
-use Rattle.std.specs.List.{All}
-use Rattle.std.proofs.lemmas.List.Elements.{All-nil, All-cons}
+use Rattle.tb_evaluator.proofs.Common.{◌≡◌, ℕ, zero, suc, ◌+◌, ◌<◌, ◌≤◌, ◌^◌, List, [], ◌∷◌, map, slice_index, slice_get, Option, Some, None, refl, ap, sym, ◌∙◌, arith, All, All-nil, All-cons, Names}
+use Rattle.tb_evaluator.proofs.Common.{store_of, word_bits, FitsWidth, FitsWord, FitsSignals, Update, World, Fits, IsOfSignal, AreOfSignals, store_in, HasSignal, HasSignals}
 use Rattle.mcy_base.specs.declared.word.Word.{Word}
 use Rattle.vlog_meaning.specs.declared.scope.Decl.{Decl}
 use Rattle.vlog_meaning.specs.declared.scope.Decl.TheVariants.{Signal, Constant}
-use Rattle.vlog_meaning.specs.Scopes.{Names, store_of, word_bits, FitsWidth, FitsWord, FitsSignals}
 use Rattle.vlog_effects.specs.LeftSides.{Vector, vector_of}
-use Rattle.tb_machine.specs.declared.update.Update.{Update}
-use Rattle.tb_machine.specs.Worlds.{World, Fits}
-use Rattle.tb_assigns.specs.Laws.{IsOfSignal, AreOfSignals}
-use Rattle.tb_evaluator.specs.Meanings.{store_in, HasSignal, HasSignals}
+use Rattle.std.proofs.lemmas.Option.{none-some}
+use Rattle.tb_assigns.proofs.Checked.{same_vector}
 
 width_at : (ws : List Word) (k width : ℕ) → slice_index (map (λ w. w.width) ws) k ≡ width → FitsWidth width (slice_get ws k)
 width_at [] k width is = tt
@@ -35,12 +31,6 @@ same_store ws w is = λ i k. (bits_at ws k ∙ ap (λ (ns : List ℕ). slice_ind
 
 -- An update that fits.
 
-none_some : {A : Type 0} (x : A) → None ≡ Some x → ⊥
-none_some x e = absurd cc
-
-same_vector : (a b : Vector) → Some a ≡ Some b → a ≡ b
-same_vector a b e = cc
-
 signal_fits : (widths : List ℕ) (u : Update) (v : Vector) (d : Option Decl) → vector_of d ≡ Some v → HasSignal widths d → u.signal ≡ v.number → 1 ≤ u.width → u.low + u.width ≤ v.width → u.value < 2 ^ u.width → Fits widths u
 signal_fits widths u v (Some (Signal width low is_signed number)) is has signal some inside value =
     let same : record { number = number; width = width; low = low } ≡ v = same_vector (record { number = number; width = width; low = low }) v is in
@@ -49,8 +39,8 @@ signal_fits widths u v (Some (Signal width low is_signed number)) is has signal 
     let here : u.signal ≡ number = signal ∙ sym number_is in
     let wide : slice_index widths u.signal ≡ v.width = ap (λ (k : ℕ). slice_index widths k) here ∙ has.1 ∙ width_is in
     record { known = omega (arith, here, has.0); some = some; inside = omega (arith, inside, wide); value = value }
-signal_fits widths u v (Some (Constant value low is_signed)) is has signal some inside below = absurd (none_some v is)
-signal_fits widths u v None is has signal some inside below = absurd (none_some v is)
+signal_fits widths u v (Some (Constant value low is_signed)) is has signal some inside below = absurd (none-some v is)
+signal_fits widths u v None is has signal some inside below = absurd (none-some v is)
 
 pub update_fits : (names : Names) (widths : List ℕ) (u : Update) → HasSignals names widths → IsOfSignal names u → Fits widths u
 update_fits names widths u has of = signal_fits widths u of.vector (names of.name) of.declared (has of.name) of.signal of.some of.within of.value

@@ -7,6 +7,8 @@ use Rattle.tb_plans.specs.declared.transfer.Writing.{Writing}
 use Rattle.tb_plans.specs.declared.transfer.Writing.TheVariants as p
 use Rattle.tb_plans.specs.Transfers.{transfer_updates, draw_updates, TransferFits, DrawFits}
 
+-- For proofs alone.
+
 -- its updates, and the generator after them
 abbrev pub writing_updates : Writing → Store → Lcg → List Update × Lcg
 writing_updates (p.Transfer t) store g = (transfer_updates t store, g)

@@ -1,3 +1,2 @@
-pub mod Features
 pub mod Faults
 pub mod Order

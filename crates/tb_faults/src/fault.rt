@@ -5,11 +5,11 @@ ghost use Rattle.vlog_meaning.specs.Answers.{least};
 ghost use Rattle.vlog_meaning.specs.declared.fault.Fault.{Fault as Flaw};
 ghost use Rattle.tb_faults.specs.declared.fault.BenchFault.{BenchFault as Reason};
 ghost use Rattle.tb_faults.specs.declared.fault.BenchFault.TheVariants as b;
-ghost use Rattle.tb_faults.specs.Order.{place, rank, detail, precedes, earlier, IsFirst};
+ghost use Rattle.tb_faults.specs.Order.{place, earlier, IsFirst};
 
-use crate::rank::{cause_rank, feature_rank};
 use mcy_base::Span;
 use vlog_meaning::Fault;
+use vlog_refusals::{Placed, Precedence, cause_rank, feature_rank};
 use vlog_syntax::Feature;
 
 /// Why a testbench is refused, with the place.
@@ -27,73 +27,19 @@ pub enum BenchFault {
     TwoClocks(Span),
 }
 
-impl BenchFault {
-    /// Its place.
-    pub fn place(self) -> Span
-        ensures { result ≡ place self }
-    {
-        match self {
-            BenchFault::Wrong(fault) => fault.span,
-            BenchFault::Twice(span)
-            | BenchFault::Unsupported(span, _)
-            | BenchFault::PortMismatch(span)
-            | BenchFault::TwoClocks(span) => span,
-        }
-    }
+/// By its place, its kind, and its cause or feature.
+impl Placed for BenchFault {
+    ghost place = { λ f. place f };
 
-    /// The place in the order of kinds at one place.
-    fn rank(self) -> u8
-        ensures { result ≡ rank self }
-    {
-        match self {
-            BenchFault::Wrong(_) => 0,
-            BenchFault::Twice(_) => 1,
-            BenchFault::Unsupported(..) => 2,
-            BenchFault::PortMismatch(_) => 3,
-            BenchFault::TwoClocks(_) => 4,
-        }
-    }
-
-    /// The place in the order of those of one kind at one place: by cause or feature.
-    fn detail(self) -> u32
-        ensures { result ≡ detail self }
-    {
-        match self {
-            BenchFault::Wrong(fault) => cause_rank(fault.cause),
-            BenchFault::Unsupported(_, feature) => feature_rank(feature),
-            BenchFault::Twice(_) | BenchFault::PortMismatch(_) | BenchFault::TwoClocks(_) => 0,
-        }
-    }
-
-    /// Whether it comes before another: by file, line, column, kind and what is told of it.
-    fn precedes(self, other: BenchFault) -> bool
-        ensures { result ≡ precedes self other }
-    {
-        let this = self.place();
-        let that = other.place();
-        if this.file != that.file {
-            this.file < that.file
-        } else if this.line != that.line {
-            this.line < that.line
-        } else if this.col != that.col {
-            this.col < that.col
-        } else if self.rank() != other.rank() {
-            self.rank() < other.rank()
-        } else {
-            self.detail() < other.detail()
-        }
-    }
-}
-
-/// The first of two.
-#[tactic(auto, unfolding(crate::specs::Order::earlier))]
-fn sooner(f: Option<BenchFault>, g: Option<BenchFault>) -> Option<BenchFault>
-    ensures { result ≡ earlier f g }
-{
-    match (f, g) {
-        (None, g) => g,
-        (f, None) => f,
-        (Some(f), Some(g)) => Some(if g.precedes(f) { g } else { f }),
+    fn precedence(self) -> Precedence {
+        let (span, kind, detail) = match self {
+            BenchFault::Wrong(fault) => (fault.span, 0, cause_rank(fault.cause)),
+            BenchFault::Twice(span) => (span, 1, 0),
+            BenchFault::Unsupported(span, feature) => (span, 2, feature_rank(feature)),
+            BenchFault::PortMismatch(span) => (span, 3, 0),
+            BenchFault::TwoClocks(span) => (span, 4, 0),
+        };
+        Precedence { span, kind, detail }
     }
 }
 
@@ -102,7 +48,7 @@ pub fn earlier(f: Option<BenchFault>, g: Option<BenchFault>) -> Option<BenchFaul
     ensures earlier { result ≡ earlier f g }
     ensures joined { (xs ys : List Reason) → IsFirst xs f → IsFirst ys g → IsFirst (xs ++ ys) result }
 {
-    sooner(f, g)
+    vlog_refusals::earlier(f, g)
 }
 
 /// What is wrong in an expression, as a reason.

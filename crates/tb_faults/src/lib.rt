@@ -7,7 +7,6 @@
 mod error;
 mod fault;
 mod laws;
-mod rank;
 
 pub use error::BenchError;
 pub use fault::{BenchFault, earlier, wrong};

@@ -22,9 +22,6 @@ digit_more count left bits v glyph old now pushed some within is push digit =
     let rest : u / 2 ^ bits ≡ v / 2 ^ (bits * left) = shr-shr v (bits * (left - 1)) bits ∙ ap (λ k. v / 2 ^ k) above in
     rw (push, is, digit, one, rest) (append_assoc old (lowest_digits (count - left) (2 ^ bits) (v / 2 ^ (bits * left))) _)
 
-pub power_fits : (k : ℕ) → k < 128 → 2 ^ k < 2 ^ 128
-power_fits k h = let m : 2 ^ k ≤ 2 ^ 127 = pow_mono {i = k} {j = 127} (omega arith) in omega arith
-
 -- a digit of at most four bits
 pub digit_small : (x bits power : ℕ) → bits ≤ 4 → power ≡ 2 ^ bits → x % power < 16
 digit_small x bits power few is =

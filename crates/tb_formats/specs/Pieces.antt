@@ -37,6 +37,8 @@ abbrev mutual
   unpadded [] = None
   unpadded (c ∷ more) = before (option_map (value_piece false) (form_of c)) (pieces more)
 
+-- For proofs alone.
+
 -- a text begins with this piece, of so many bytes
 abbrev pub Begins : List ℕ → Option (Piece × ℕ) → Type 0
 Begins text None = (text ≡ []) ⊎ (pieces text ≡ None)

@@ -1,21 +1,12 @@
 -- Formulas of names and of their bits.
-use Rattle.std.proofs.Common.{◌≡◌, ℕ, zero, suc, ◌+◌, ◌<◌, ◌≤◌, ◌^◌, Bool, pos, negsuc, List, length, Option, Some, sym, ap, ◌∙◌, arith, subst}
-use Rattle.std.specs.Prelude.{◌-ℤ◌}
+use Rattle.tb_formulas.proofs.Common.{◌≡◌, ℕ, zero, suc, ◌+◌, ◌<◌, ◌≤◌, ◌^◌, Bool, pos, negsuc, List, length, Option, Some, sym, ap, ◌∙◌, arith, subst, ◌-ℤ◌, Decl, Shape, window, decl_shape}
+use Rattle.tb_formulas.proofs.Common.{IsContext, Formula, Part, HasSignal, FitsIn}
 use Rattle.std.proofs.Math.IntN.{+ℤ_idl}
-use Rattle.vlog_meaning.specs.declared.scope.Decl.{Decl}
 use Rattle.vlog_meaning.specs.declared.scope.Decl.TheVariants.{Signal}
-use Rattle.vlog_meaning.specs.declared.shapes.Shape.{Shape}
-use Rattle.vlog_meaning.specs.Integers.{window}
 use Rattle.vlog_meaning.specs.Operators.{IsSized}
-use Rattle.vlog_meaning.specs.Scopes.{decl_shape}
-use Rattle.vlog_meaning.specs.Senses.{IsContext}
 use Rattle.vlog_meaning.proofs.Powers.{shifted_out}
-use Rattle.tb_formulas.specs.declared.formula.Formula.{Formula}
-use Rattle.tb_formulas.specs.declared.formula.Part.{Part}
 use Rattle.tb_formulas.specs.declared.formula.Formula.TheOpen as o
 use Rattle.tb_formulas.specs.declared.formula.Formula.TheVariants as v
-use Rattle.tb_formulas.specs.Signals.{HasSignal}
-use Rattle.tb_formulas.specs.Formulas.{FitsIn}
 use Rattle.tb_formulas.proofs.Layers.{closed}
 
 pub number_fits : (widths : List ℕ) (b n : ℕ) → b < 2 ^ n → FitsIn widths (v.Number b) n

@@ -1,12 +1,7 @@
 -- A formula by its kind: what it comes to, and what it takes to fit, from its parts.
-use Rattle.std.proofs.Common.{◌≡◌, ℕ, List, refl, sym, ap, ◌∙◌, subst}
-use Rattle.vlog_meaning.specs.Scopes.{Store}
-use Rattle.tb_formulas.specs.declared.formula.Formula.{Formula}
+use Rattle.tb_formulas.proofs.Common.{◌≡◌, ℕ, List, refl, sym, ap, ◌∙◌, subst, Store, Formula, Formula-F, roll-Formula, value_step, formula_value, fits_step, FitsIn}
 use Rattle.tb_formulas.specs.declared.formula.Formula.TheOpen as o
-use Rattle.tb_formulas.specs.declared.formula.Formula.TheOpen.{Formula-F}
 use Rattle.tb_formulas.specs.declared.formula.Formula.TheFolds.{map-Formula, fold-roll-Formula, rec-roll-Formula}
-use Rattle.tb_formulas.specs.declared.formula.Formula.TheViews.{roll-Formula}
-use Rattle.tb_formulas.specs.Formulas.{value_step, formula_value, fits_step, FitsIn}
 
 natural : (widths : List ℕ) (X : Type 0) (v : X → Formula) (k : Formula → ℕ → Type 0) (x : Formula-F X) → fits_step widths X v (λ p. k (v p)) x ≡ fits_step widths Formula (λ y. y) k (map-Formula X Formula v x)
 natural widths X v k (o.Number n) = refl

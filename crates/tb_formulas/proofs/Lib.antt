@@ -1,3 +1,4 @@
+mod Common
 pub mod Layers
 pub mod Values
 pub mod Widening

@@ -1,37 +1,24 @@
 -- Formulas of expressions, from those of their parts.
-use Rattle.std.proofs.Common.{◌≡◌, ℕ, suc, ◌+◌, ◌*◌, ◌<◌, ◌≤◌, ◌^◌, Bool, true, false, ℤ, pos, ◌==◌, List, [], ◌∷◌, length, get_or, drop, take, refl, sym, ap, ◌∙◌, arith, subst}
-use Rattle.std.specs.Prelude.{◌-ℤ◌, Option, Some, None, Result, Ok, Err, IfOk, if◌then◌else◌}
+use Rattle.tb_formulas.proofs.Common.{◌≡◌, ℕ, suc, ◌+◌, ◌*◌, ◌<◌, ◌≤◌, ◌^◌, Bool, true, false, ℤ, pos, ◌==◌, List, [], ◌∷◌, length, get_or, drop, take, refl, sym, ap, ◌∙◌, arith, subst, ◌-ℤ◌, None}
+use Rattle.tb_formulas.proofs.Common.{Result, Ok, Err, IfOk, if◌then◌else◌, pow_pos, UnaryOperator, BinaryOperator, Expr, Decl, Shape, function_of, integer, extended, natural, window, clog2, Names}
+use Rattle.tb_formulas.proofs.Common.{Store, nothing, store_of, decl_shape, decl_low, decl_value, Sense, sense, senses, step, own, index_of, taken, joined, repeated, total_width, call_shape}
+use Rattle.tb_formulas.proofs.Common.{call_value, part_width, constant_integer, IsWhole, IsContext, IsWholeCall, wider, context_sized, are_paired, parts_drop, total_take, total_parts, joined_step}
+use Rattle.tb_formulas.proofs.Common.{whole_part, Formula, HasSignal, formula_value, FitsIn, Serves, Makes}
+use Rattle.std.specs.Prelude.{Option, Some}
 use Rattle.std.proofs.lemmas.List.{drop_all}
-use Rattle.std.proofs.lemmas.Nat.{pow_pos}
 use Rattle.mcy_base.specs.declared.span.Span.{Span}
 use Rattle.vlog_syntax.specs.declared.identifier.Identifier.{Identifier}
 use Rattle.vlog_syntax.specs.declared.identifier.Number.{Number}
-use Rattle.vlog_syntax.specs.declared.operator.UnaryOperator.{UnaryOperator}
-use Rattle.vlog_syntax.specs.declared.operator.BinaryOperator.{BinaryOperator}
-use Rattle.vlog_syntax.specs.declared.expr.Expr.{Expr}
 use Rattle.vlog_syntax.specs.declared.expr.Expr.TheOpen as e
 use Rattle.vlog_syntax.specs.declared.expr.Expr.TheVariants as v
 use Rattle.vlog_meaning.specs.declared.function.Function.{Function}
 use Rattle.vlog_meaning.specs.declared.function.Function.TheVariants.{Signed, Unsigned, Clog2, Random, Time}
-use Rattle.vlog_meaning.specs.declared.scope.Decl.{Decl}
-use Rattle.vlog_meaning.specs.declared.shapes.Shape.{Shape}
 use Rattle.vlog_meaning.specs.declared.operator.Sizing.{Sizing}
 use Rattle.vlog_meaning.specs.declared.operator.Sizing.TheVariants.{Common, Left, Compared, Apart}
-use Rattle.vlog_meaning.specs.Functions.{function_of}
-use Rattle.vlog_meaning.specs.Integers.{integer, extended, natural, window, clog2}
 use Rattle.vlog_meaning.specs.Operators.{IsSized, ArePaired, bit, sizing, pair_shape, left_context, right_context, result_width, is_reduction, unary_shape, operand_context, unary_value, binary_value}
-use Rattle.vlog_meaning.specs.Scopes.{Names, Store, nothing, store_of, decl_shape, decl_low, decl_value}
-use Rattle.vlog_meaning.specs.Senses.{Sense, sense, senses, step, own, index_of, taken, joined, repeated, total_width, call_shape, call_value, part_width, constant_integer, IsWhole, IsContext, IsWholeCall}
-use Rattle.vlog_meaning.proofs.Contexts.{wider, context_sized, are_paired}
-use Rattle.vlog_meaning.proofs.Results.{parts_drop, total_take, total_parts, joined_step}
-use Rattle.vlog_meaning.proofs.Whole.{whole_part}
 use Rattle.vlog_meaning.proofs.Steps as s
-use Rattle.tb_formulas.specs.declared.formula.Formula.{Formula}
 use Rattle.tb_formulas.specs.declared.formula.Formula.TheOpen as o
 use Rattle.tb_formulas.specs.declared.formula.Formula.TheVariants as u
-use Rattle.tb_formulas.specs.Signals.{HasSignal}
-use Rattle.tb_formulas.specs.Formulas.{formula_value, FitsIn, Serves}
-use Rattle.tb_formulas.specs.Made.{Makes}
 use Rattle.tb_formulas.proofs.Layers.{closed, valued}
 use Rattle.tb_formulas.proofs.Values.{says_number}
 use Rattle.tb_formulas.proofs.Widening.{widens}

@@ -1,24 +1,13 @@
 -- Numbers that fit, and what formulas come to.
-use Rattle.std.proofs.Common.{◌≡◌, ℕ, zero, suc, ◌+◌, ◌*◌, ◌/◌, ◌%◌, ◌<◌, ◌≤◌, ◌^◌, Bool, true, false, ℤ, pos, ◌==◌, List, [], ◌∷◌, map, length, get_or, slice_index, refl, sym, ap, ◌∙◌, arith, subst}
-use Rattle.std.specs.Prelude.{if◌then◌else◌, ◌-ℤ◌}
-use Rattle.std.proofs.lemmas.Nat.{mod_below, pow_pos}
+use Rattle.tb_formulas.proofs.Common.{◌≡◌, ℕ, zero, suc, ◌+◌, ◌*◌, ◌/◌, ◌%◌, ◌<◌, ◌≤◌, ◌^◌, Bool, true, false, ℤ, pos, ◌==◌, List, [], ◌∷◌, map, length, get_or, slice_index, refl, sym, ap, ◌∙◌, arith}
+use Rattle.tb_formulas.proofs.Common.{subst, if◌then◌else◌, ◌-ℤ◌, mod_below, pow_pos, Word, UnaryOperator, BinaryOperator, Shape, integer, extended, window, Store, store_of, repeated, wider}
+use Rattle.tb_formulas.proofs.Common.{window_fits, unary_fits, binary_fits, Formula, Part, signed, formula_value}
 use Rattle.std.proofs.Math.Nat.{mod-eq_of_lt}
 use Rattle.std.proofs.lemmas.Bool.Decides.{nat_tests}
-use Rattle.mcy_base.specs.declared.word.Word.{Word}
-use Rattle.vlog_syntax.specs.declared.operator.UnaryOperator.{UnaryOperator}
-use Rattle.vlog_syntax.specs.declared.operator.BinaryOperator.{BinaryOperator}
-use Rattle.vlog_meaning.specs.declared.shapes.Shape.{Shape}
-use Rattle.vlog_meaning.specs.Integers.{integer, extended, window}
 use Rattle.vlog_meaning.specs.Operators.{IsSized, ArePaired, bit, sizing, result_width, is_reduction, unary_shape, operand_context, unary_value, binary_value}
-use Rattle.vlog_meaning.specs.Scopes.{Store, store_of}
-use Rattle.vlog_meaning.specs.Senses.{repeated}
-use Rattle.vlog_meaning.proofs.Contexts.{wider, window_fits, unary_fits, binary_fits}
 use Rattle.vlog_meaning.proofs.Joins.{joined_fits, shifted_whole}
-use Rattle.tb_formulas.specs.declared.formula.Formula.{Formula}
-use Rattle.tb_formulas.specs.declared.formula.Part.{Part}
 use Rattle.tb_formulas.specs.declared.formula.Formula.TheOpen as o
 use Rattle.tb_formulas.specs.declared.formula.Formula.TheVariants as v
-use Rattle.tb_formulas.specs.Formulas.{signed, formula_value}
 use Rattle.tb_formulas.proofs.Layers.{valued}
 
 -- Words.

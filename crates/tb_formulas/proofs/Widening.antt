@@ -1,12 +1,7 @@
 -- What fits a width fits a greater one.
-use Rattle.std.proofs.Common.{ℕ, ◌≤◌, List, refl, arith, subst}
-use Rattle.vlog_meaning.proofs.Contexts.{wider}
-use Rattle.tb_formulas.specs.declared.formula.Formula.{Formula}
+use Rattle.tb_formulas.proofs.Common.{ℕ, ◌≤◌, List, refl, arith, subst, wider, Formula, Formula-F, roll-Formula, FitsIn}
 use Rattle.tb_formulas.specs.declared.formula.Formula.TheOpen as o
-use Rattle.tb_formulas.specs.declared.formula.Formula.TheOpen.{Formula-F}
 use Rattle.tb_formulas.specs.declared.formula.Formula.TheFolds.{map-Formula, ind-Formula}
-use Rattle.tb_formulas.specs.declared.formula.Formula.TheViews.{roll-Formula}
-use Rattle.tb_formulas.specs.Formulas.{FitsIn}
 use Rattle.tb_formulas.proofs.Layers.{opened, closed}
 
 abbrev Widens : List ℕ → Formula → Type 0

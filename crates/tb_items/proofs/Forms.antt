@@ -1,6 +1,5 @@
 -- The left side of each production.
-use Rattle.std.proofs.Common.{◌≡◌, ℕ, suc, zero, ◌<◌, List, [], ◌∷◌, ◌++◌, map, take, drop, length, get_or, refl, sym, ap, ◌∙◌, subst, arith}
-use Rattle.std.specs.Prelude.{Option, None, Some}
+use Rattle.tb_items.proofs.Common.{◌≡◌, ℕ, suc, zero, ◌<◌, List, [], ◌∷◌, ◌++◌, map, take, drop, length, get_or, refl, sym, ap, ◌∙◌, subst, arith, Option, None, Some, Identifier, LeftSide}
 use Rattle.mcy_base.specs.declared.span.Span.{Span}
 use Rattle.vlog_syntax.specs.declared.expr.Expr.{Expr}
 use Rattle.vlog_syntax.specs.declared.expr.Expr.TheOpen as e
@@ -8,13 +7,12 @@ use Rattle.vlog_syntax.specs.declared.expr.Expr.TheOpen.{Expr-F}
 use Rattle.vlog_syntax.specs.declared.expr.Expr.TheVariants as v
 use Rattle.vlog_syntax.specs.declared.expr.Expr.TheViews.{roll-Expr}
 use Rattle.vlog_syntax.specs.declared.expr.Expr.TheFolds.{fold-roll-Expr, ind-Expr, map-Expr}
-use Rattle.vlog_syntax.specs.declared.identifier.Identifier.{Identifier}
 use Rattle.vlog_syntax.specs.declared.identifier.Number.{Number}
 use Rattle.vlog_syntax.specs.declared.operator.BinaryOperator.{BinaryOperator}
 use Rattle.vlog_syntax.specs.declared.operator.UnaryOperator.{UnaryOperator}
-use Rattle.vlog_syntax.specs.declared.left_side.LeftSide.{LeftSide}
 use Rattle.vlog_syntax.specs.declared.left_side.LeftSide.TheVariants as l
 use Rattle.tb_items.specs.Lefts.{Form, form, formed, left_in, left_of, all_lefts, with_first, concatenated}
+use Rattle.std.proofs.lemmas.Option.{same_Some}
 
 -- The expression of a form is the expression.
 
@@ -110,17 +108,14 @@ left_call n xs = ap left_of (sym (v.rolls-SystemFunctionCall n xs)) ∙ layer (e
 
 -- Lists of left sides.
 
-some_same : {A : Type 0} (a b : A) → Some a ≡ Some b → a ≡ b
-some_same a b e = cc
-
 one_more : (os : List (Option LeftSide)) (lefts : List LeftSide) (x : LeftSide) → all_lefts os ≡ Some lefts → all_lefts (os ++ Some x ∷ []) ≡ Some (lefts ++ x ∷ [])
-one_more [] lefts x e = ap (λ (ls : List LeftSide). Some (ls ++ x ∷ [])) (some_same [] lefts e)
+one_more [] lefts x e = ap (λ (ls : List LeftSide). Some (ls ++ x ∷ [])) (same_Some [] lefts e)
 one_more (None ∷ os) lefts x e = absurd cc
 one_more (Some y ∷ os) lefts x e = go (all_lefts os) refl (one_more os) e
   where
     go : (o : Option (List LeftSide)) → all_lefts os ≡ o → ((ls : List LeftSide) (z : LeftSide) → all_lefts os ≡ Some ls → all_lefts (os ++ Some z ∷ []) ≡ Some (ls ++ z ∷ [])) → with_first y o ≡ Some lefts → with_first y (all_lefts (os ++ Some x ∷ [])) ≡ Some (lefts ++ x ∷ [])
     go None is more h = absurd cc
-    go (Some ls) is more h = ap (with_first y) (more ls x is) ∙ ap (λ (zs : List LeftSide). Some (zs ++ x ∷ [])) (some_same (y ∷ ls) lefts h)
+    go (Some ls) is more h = ap (with_first y) (more ls x is) ∙ ap (λ (zs : List LeftSide). Some (zs ++ x ∷ [])) (same_Some (y ∷ ls) lefts h)
 
 one_missing : (os rest : List (Option LeftSide)) → all_lefts (os ++ None ∷ rest) ≡ None
 one_missing [] rest = refl

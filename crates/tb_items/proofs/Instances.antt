@@ -1,15 +1,11 @@
 -- The connections of an instance, one part behind the other.
-use Rattle.std.proofs.Common.{◌≡◌, ℕ, List, ◌++◌, ap, ◌∙◌, append_assoc}
-use Rattle.std.specs.List.{flat_map}
-use Rattle.std.specs.Prelude.{Option}
-use Rattle.vlog_syntax.specs.declared.identifier.Identifier.{Identifier}
+use Rattle.tb_items.proofs.Common.{◌≡◌, ℕ, List, ◌++◌, ap, ◌∙◌, append_assoc, flat_map, Option, Identifier, clock_missing, connections, taken, wire_items}
 use Rattle.vlog_syntax.specs.declared.item.Instance.{Instance}
 use Rattle.flat_scopes.specs.declared.opening.Placing.{Placing}
 use Rattle.flat_scopes.specs.declared.wire.Wire.{Wire}
 use Rattle.flat_scopes.specs.Wires.{wires_of}
 use Rattle.tb_items.specs.declared.design.Design.{Design}
 use Rattle.tb_items.specs.declared.item.BenchItem.{BenchItem}
-use Rattle.tb_items.specs.Connections.{clock_missing, connections, taken, wire_items}
 
 pub connected : (d : Design) (clock : Option (List ℕ)) (x : Placing) (i : Instance) (m : Identifier) (ws us vs : List Wire) (old first second new : List BenchItem) → i ≡ x.instance → m ≡ x.module_name → ws ≡ wires_of d.ports i → us ≡ ws → vs ≡ ws
     → first ≡ old ++ clock_missing d.clock m.span us → second ≡ first ++ taken x → new ≡ second ++ flat_map (wire_items d clock i.name) vs → new ≡ old ++ connections d clock x

@@ -1,2 +1,3 @@
+mod Common
 pub mod Forms
 pub mod Instances

@@ -1,27 +1,12 @@
 -- Assigns in which nothing is wrong can be carried out.
-use Rattle.std.proofs.Common.{◌≡◌, true, ◌&&◌, List, [], ◌++◌, map, ap}
-use Rattle.std.specs.Prelude.{None}
-use Rattle.std.specs.List.{flat_map}
-use Rattle.vlog_syntax.specs.declared.expr.Expr.{Expr}
+use Rattle.tb_known.proofs.Common.{◌≡◌, true, ◌&&◌, List, [], ◌++◌, map, ap, None, flat_map, Expr, Fault, Names, sense, fault, assigned, is_empty, left_nil, right_nil, width_of, parts_of, same_form}
+use Rattle.tb_known.proofs.Common.{divisions, BenchFault, Wrong, has_shape, all_signals, wrong, part_faults, FaultlessAssigns}
 use Rattle.vlog_meaning.specs.declared.fault.Cause.TheVariants.{SystemFunction}
-use Rattle.vlog_meaning.specs.declared.fault.Fault.{Fault}
-use Rattle.vlog_meaning.specs.Scopes.{Names}
-use Rattle.vlog_meaning.specs.Senses.{sense, fault, assigned, is_empty}
-use Rattle.vlog_meaning.proofs.Blanks.{left_nil, right_nil}
-use Rattle.vlog_effects.specs.Expressions.{width_of}
-use Rattle.vlog_effects.specs.LeftSides.{parts_of}
-use Rattle.elab_proc.specs.Refusals.{same_form, divisions}
-use Rattle.tb_faults.specs.declared.fault.BenchFault.{BenchFault}
-use Rattle.tb_faults.specs.declared.fault.BenchFault.TheVariants.{Wrong}
-use Rattle.tb_assigns.specs.Checks.{has_shape, all_signals}
-use Rattle.tb_checks.specs.Expressions.{wrong}
-use Rattle.tb_checks.specs.Lefts.{part_faults}
 use Rattle.tb_checks.specs.Nets.{randoms, net_wrong, indices_faults, net_faults}
-use Rattle.tb_known.specs.Laws.{FaultlessAssigns}
 use Rattle.tb_known.proofs.Nothing.{none_before, and_true}
 use Rattle.tb_known.proofs.Expressions.{wrong_passes, signals_pass}
 
-net_passes : (names : Names) (x : Expr) → net_wrong names x ≡ [] → has_shape names x ≡ true
+pub net_passes : (names : Names) (x : Expr) → net_wrong names x ≡ [] → has_shape names x ≡ true
 net_passes names x e = wrong_passes names x (left_nil (wrong names x) (map (fault SystemFunction) (randoms x)) e)
 
 pub assigns : FaultlessAssigns

@@ -1,31 +1,13 @@
 -- Expressions, assignments and tasks in which nothing is wrong pass.
-use Rattle.std.proofs.Common.{◌≡◌, ℕ, Bool, true, false, not, ◌&&◌, ◌||◌, List, [], ◌∷◌, ◌++◌, map, refl, ap, codes, if◌then◌else◌}
-use Rattle.std.specs.Prelude.{Option, None, Some}
-use Rattle.std.specs.List.{flat_map}
+use Rattle.tb_known.proofs.Common.{◌≡◌, ℕ, Bool, true, false, not, ◌&&◌, ◌||◌, List, [], ◌∷◌, ◌++◌, map, refl, ap, codes, if◌then◌else◌, Option, None, Some, flat_map, Expr, Argument, Assignment, Decl}
+use Rattle.tb_known.proofs.Common.{Signal, Constant, Names, sense, own_zeros, assigned, left_nil, right_nil, width_of, Part, vector_of, part_vector, parts_of, same_form, divisions, BenchFault, Wrong}
+use Rattle.tb_known.proofs.Common.{all_of, task_passes, has_shape, is_signal, all_signals, can_assign, arguments_fit, wrong, sides_faults, name_faults, part_faults, argument_passes, bench_tests}
 use Rattle.std.specs.Str.{bytes_eq}
-use Rattle.vlog_syntax.specs.declared.expr.Expr.{Expr}
 use Rattle.vlog_syntax.specs.declared.identifier.Identifier.{Identifier}
-use Rattle.vlog_syntax.specs.declared.stmt.Argument.{Argument}
 use Rattle.vlog_syntax.specs.declared.stmt.Argument.TheVariants as a
-use Rattle.vlog_syntax.specs.declared.stmt.Assignment.{Assignment}
-use Rattle.vlog_meaning.specs.declared.scope.Decl.{Decl}
-use Rattle.vlog_meaning.specs.declared.scope.Decl.TheVariants.{Signal, Constant}
-use Rattle.vlog_meaning.specs.Scopes.{Names}
-use Rattle.vlog_meaning.specs.Senses.{sense, own_zeros, assigned}
-use Rattle.vlog_meaning.proofs.Blanks.{left_nil, right_nil}
-use Rattle.vlog_effects.specs.Expressions.{width_of}
-use Rattle.vlog_effects.specs.LeftSides.{Part, vector_of, part_vector, parts_of}
-use Rattle.elab_proc.specs.Refusals.{same_form, divisions}
-use Rattle.tb_faults.specs.declared.fault.BenchFault.{BenchFault}
-use Rattle.tb_faults.specs.declared.fault.BenchFault.TheVariants.{Wrong}
-use Rattle.tb_code.specs.Tests.{all_of, task_passes}
-use Rattle.tb_assigns.specs.Checks.{has_shape, is_signal, all_signals, can_assign}
-use Rattle.tb_tasks.specs.Tasks.{arguments_fit}
-use Rattle.tb_checks.specs.Expressions.{wrong, sides_faults}
-use Rattle.tb_checks.specs.Lefts.{name_faults, part_faults}
 use Rattle.tb_checks.specs.Statements.{Rules, is_print, is_dump, other_task, test_faults, assignment_faults, arguments_faults, format_faults, task_faults}
-use Rattle.tb_known.specs.Laws.{argument_passes, bench_tests}
 use Rattle.tb_known.proofs.Nothing.{none_before, empty_is, and_true}
+use Rattle.vlog_meaning.proofs.Reading.{those_hold}
 
 pub wrong_passes : (names : Names) (x : Expr) → wrong names x ≡ [] → has_shape names x ≡ true
 wrong_passes names x e = empty_is (sense names x).faults (left_nil (sense names x).faults (sense names x).features e)
@@ -65,13 +47,9 @@ arguments_pass names [] e = refl
 arguments_pass names (a.String text at ∷ more) e = arguments_pass names more e
 arguments_pass names (a.Expr x ∷ more) e = and_true (has_shape names x) (all_of (map (argument_passes names) more)) (test_passes names x (left_nil (test_faults names x) (arguments_faults names more) e)) (arguments_pass names more (right_nil (test_faults names x) (arguments_faults names more) e))
 
-or_right : (a b : Bool) → b ≡ true → a || b ≡ true
-or_right true b e = refl
-or_right false b e = e
-
 print_passes : (names : Names) (n : Identifier) (arguments : List Argument) (b : Bool) → is_print n.name ≡ b → (if b then format_faults (arguments_fit arguments) arguments ++ arguments_faults names arguments else (if is_dump n.name then [] else other_task n ++ arguments_faults names arguments)) ≡ [] → not (is_print n.name) || all_of (map (argument_passes names) arguments) ≡ true
-print_passes names n arguments true is e = or_right (not (is_print n.name)) (all_of (map (argument_passes names) arguments)) (arguments_pass names arguments (right_nil (format_faults (arguments_fit arguments) arguments) (arguments_faults names arguments) e))
+print_passes names n arguments true is e = those_hold (not (is_print n.name)) (all_of (map (argument_passes names) arguments)) (arguments_pass names arguments (right_nil (format_faults (arguments_fit arguments) arguments) (arguments_faults names arguments) e))
 print_passes names n arguments false is e = ap (λ (c : Bool). not c || all_of (map (argument_passes names) arguments)) is
 
 pub task_is_known : (names : Names) (n : Identifier) (arguments : List Argument) → task_faults names n arguments ≡ [] → task_passes (bench_tests names) n.name arguments ≡ true
-task_is_known names n arguments e = or_right (bytes_eq n.name (codes "$finish")) (not (is_print n.name) || all_of (map (argument_passes names) arguments)) (print_passes names n arguments (is_print n.name) refl e)
+task_is_known names n arguments e = those_hold (bytes_eq n.name (codes "$finish")) (not (is_print n.name) || all_of (map (argument_passes names) arguments)) (print_passes names n arguments (is_print n.name) refl e)

@@ -1,24 +1,12 @@
 -- Statements in which nothing is wrong pass, by induction on statements.
-use Rattle.std.proofs.Common.{◌≡◌, Bool, true, ◌&&◌, List, [], ◌∷◌, ◌++◌, map, refl, sym, ap, ◌∙◌, subst}
-use Rattle.std.specs.Prelude.{None, Some}
-use Rattle.std.specs.List.{flat_map}
+use Rattle.tb_known.proofs.Common.{◌≡◌, Bool, true, ◌&&◌, List, [], ◌∷◌, ◌++◌, map, refl, sym, ap, ◌∙◌, subst, None, Some, flat_map, Expr, CaseItem, roll-CaseItem, Stmt-F, CaseItem-F, fold-roll-Stmt}
+use Rattle.tb_known.proofs.Common.{fold-roll-CaseItem, ind-Stmt, map-Stmt, left_nil, right_nil, divisions, common_size, zeros_at, BenchFault, Wrong, Unsupported, Tests, all_of, labels_pass}
+use Rattle.tb_known.proofs.Common.{passes_step, item_tests, passes, item_passes, has_shape, can_assign, wrong, case_faults, bench_tests}
 use Rattle.std.proofs.lemmas.Grind.{flat_map-append}
-use Rattle.vlog_syntax.specs.declared.expr.Expr.{Expr}
 use Rattle.vlog_syntax.specs.declared.feature.Feature.TheVariants.{Delay}
-use Rattle.vlog_syntax.specs.declared.stmt.CaseItem.{CaseItem, roll-CaseItem}
 use Rattle.vlog_syntax.specs.declared.stmt.Stmt.{Stmt, roll-Stmt}
 use Rattle.vlog_syntax.specs.declared.stmt.Stmt.TheOpen as s
-use Rattle.vlog_syntax.specs.declared.stmt.Stmt.TheOpen.{Stmt-F, CaseItem-F}
-use Rattle.vlog_syntax.specs.declared.stmt.Stmt.TheFolds.{fold-roll-Stmt, fold-roll-CaseItem, ind-Stmt, map-Stmt}
-use Rattle.vlog_meaning.proofs.Blanks.{left_nil, right_nil}
-use Rattle.elab_proc.specs.Refusals.{divisions, common_size, zeros_at}
-use Rattle.tb_faults.specs.declared.fault.BenchFault.{BenchFault}
-use Rattle.tb_faults.specs.declared.fault.BenchFault.TheVariants.{Wrong, Unsupported}
-use Rattle.tb_code.specs.Tests.{Tests, all_of, labels_pass, passes_step, item_step as item_tests, passes, item_passes}
-use Rattle.tb_assigns.specs.Checks.{has_shape, can_assign}
-use Rattle.tb_checks.specs.Expressions.{wrong, case_faults}
 use Rattle.tb_checks.specs.Statements.{Rules, ItemFaults, test_faults, assignment_faults, control_faults, all_faults, all_labels, all_bodies, stmt_step, item_step, stmt_faults, item_faults}
-use Rattle.tb_known.specs.Laws.{bench_tests}
 use Rattle.tb_known.proofs.Nothing.{none_before, and_true}
 use Rattle.tb_known.proofs.Expressions.{wrong_passes, test_passes, assignment_passes, task_is_known}
 

@@ -1,35 +1,25 @@
 -- Nodes that pass are known.
-use Rattle.std.proofs.Common.{◌≡◌, ℕ, Bool, true, false, not, ◌&&◌, ◌||◌, List, [], ◌∷◌, map, All, refl, sym}
+use Rattle.tb_known.proofs.Common.{◌≡◌, ℕ, Bool, true, false, not, ◌&&◌, ◌||◌, List, [], ◌∷◌, map, All, refl, sym, Expr, Argument, Assignment, Names, sense, IsWhole, Tests, all_of, labels_pass}
+use Rattle.tb_known.proofs.Common.{all_labels_pass, NodePasses, both, has_shape, can_assign, AreWhole, argument_passes, bench_tests, PassingIsKnown}
 use Rattle.std.proofs.lemmas.List.Elements.{All-nil, All-cons, All-weaker}
-use Rattle.vlog_syntax.specs.declared.expr.Expr.{Expr}
-use Rattle.vlog_syntax.specs.declared.stmt.Argument.{Argument}
 use Rattle.vlog_syntax.specs.declared.stmt.Argument.TheVariants as a
-use Rattle.vlog_syntax.specs.declared.stmt.Assignment.{Assignment}
-use Rattle.vlog_meaning.specs.Scopes.{Names}
-use Rattle.vlog_meaning.specs.Senses.{sense, IsWhole}
 use Rattle.tb_machine.specs.declared.node.Choice.{Choice}
 use Rattle.tb_machine.specs.declared.node.Node.{Node}
 use Rattle.tb_machine.specs.declared.node.Node.TheVariants as n
 use Rattle.tb_machine.specs.Known.{IsKnown, AreKnown}
 use Rattle.tb_machine.specs.Nodes.{choice_labels}
-use Rattle.tb_code.specs.Tests.{Tests, all_of, labels_pass, all_labels_pass, NodePasses}
 use Rattle.tb_code.proofs.Adding.{whole_nil}
-use Rattle.tb_code.proofs.Passing.{both}
-use Rattle.tb_assigns.specs.Checks.{has_shape, can_assign}
 use Rattle.tb_assigns.specs.Updates.{CanAssign}
-use Rattle.tb_assigns.proofs.Checking.{check_can}
-use Rattle.tb_tasks.specs.Tasks.{AreWhole}
+use Rattle.tb_assigns.proofs.Checking.{check_can, empty_is}
 use Rattle.tb_evaluator.specs.Meanings.{CanPerform}
 use Rattle.tb_checks.specs.Statements.{is_print}
-use Rattle.tb_known.specs.Laws.{argument_passes, bench_tests, PassingIsKnown}
-use Rattle.tb_known.proofs.Nothing.{empty_nil}
 
 module _ (names : Names) where
   abbrev tests : Tests
   tests = bench_tests names
 
   shape_known : (x : Expr) → has_shape names x ≡ true → IsWhole names x
-  shape_known x e = empty_nil (sense names x).faults e
+  shape_known x e = empty_is (sense names x).faults e
 
   assign_known : (x : Assignment) → can_assign names x ≡ true → CanAssign names x
   assign_known x e = check_can names x true (sym e) refl

@@ -1,3 +1,4 @@
+mod Common
 pub mod Nothing
 pub mod Expressions
 pub mod Faultless

@@ -1,6 +1,7 @@
 -- Processes in which nothing is wrong pass.
-use Rattle.std.proofs.Common.{◌≡◌, ℕ, Bool, true, false, List, [], ◌∷◌, map, refl, sym, ap, ◌∙◌, if◌then◌else◌}
-use Rattle.std.specs.Prelude.{Option, None, Some}
+use Rattle.tb_known.proofs.Common.{◌≡◌, ℕ, Bool, true, false, List, [], ◌∷◌, map, refl, sym, ap, ◌∙◌, if◌then◌else◌, Option, None, Some, Assignment, CaseItem, Stmt-F, ind-Stmt, map-Stmt, Fault, Decl}
+use Rattle.tb_known.proofs.Common.{Signal, Constant, Names, left_nil, right_nil, constant_of, Part, vector_of, parts_of, parts_step, same_form, BenchFault, Wrong, Tests, all_of, passes_step, passes}
+use Rattle.tb_known.proofs.Common.{inside, passes-layer, is_signal, all_signals, can_assign, sides_faults, is_clock, bench_tests, FaultlessPass, WaitsPass}
 use Rattle.mcy_base.specs.declared.span.Span.{Span}
 use Rattle.vlog_syntax.specs.declared.item.Process.{Process}
 use Rattle.vlog_syntax.specs.declared.item.ProcessKind.{ProcessKind}
@@ -9,33 +10,13 @@ use Rattle.vlog_syntax.specs.declared.left_side.LeftSide.{LeftSide, out-LeftSide
 use Rattle.vlog_syntax.specs.declared.left_side.LeftSide.TheOpen as l
 use Rattle.vlog_syntax.specs.declared.left_side.LeftSide.TheOpen.{LeftSide-F}
 use Rattle.vlog_syntax.specs.declared.left_side.LeftSide.TheFolds.{fold_out-LeftSide, map-LeftSide}
-use Rattle.vlog_syntax.specs.declared.stmt.Assignment.{Assignment}
-use Rattle.vlog_syntax.specs.declared.stmt.CaseItem.{CaseItem}
 use Rattle.vlog_syntax.specs.declared.stmt.Stmt.{Stmt, roll-Stmt, out-Stmt, out-roll-Stmt, roll-out-Stmt}
 use Rattle.vlog_syntax.specs.declared.stmt.Stmt.TheOpen as s
-use Rattle.vlog_syntax.specs.declared.stmt.Stmt.TheOpen.{Stmt-F}
-use Rattle.vlog_syntax.specs.declared.stmt.Stmt.TheFolds.{ind-Stmt, map-Stmt}
-use Rattle.vlog_meaning.specs.declared.fault.Fault.{Fault}
-use Rattle.vlog_meaning.specs.declared.scope.Decl.{Decl}
-use Rattle.vlog_meaning.specs.declared.scope.Decl.TheVariants.{Signal, Constant}
-use Rattle.vlog_meaning.specs.Scopes.{Names}
-use Rattle.vlog_meaning.proofs.Blanks.{left_nil, right_nil}
-use Rattle.vlog_effects.specs.Expressions.{constant_of}
-use Rattle.vlog_effects.specs.LeftSides.{Part, vector_of, parts_of, parts_step}
 use Rattle.vlog_syntax.specs.Places.{left_first_token}
-use Rattle.elab_proc.specs.Refusals.{same_form}
-use Rattle.tb_faults.specs.declared.fault.BenchFault.{BenchFault}
-use Rattle.tb_faults.specs.declared.fault.BenchFault.TheVariants.{Wrong}
-use Rattle.tb_code.specs.Tests.{Tests, all_of, passes_step, passes}
-use Rattle.tb_code.proofs.Passing.{inside, passes-layer}
-use Rattle.tb_assigns.specs.Checks.{is_signal, all_signals, can_assign}
-use Rattle.tb_checks.specs.Expressions.{sides_faults}
-use Rattle.tb_checks.specs.Lefts.{is_clock}
 use Rattle.tb_checks.specs.Processes.{initial_faults, always_faults, rules_of, kind_faults}
 use Rattle.tb_checks.specs.Starts.{signal_width, clock_width, unless, start_value, start_faults, first_layer, first_faults, turn_faults, may_behind, block_faults, starting_in, begun, starting}
 use Rattle.tb_checks.specs.Statements.{Rules, control_faults, stmt_faults}
 use Rattle.tb_checks.proofs.Begun.{begun_in, own, starting_is}
-use Rattle.tb_known.specs.Laws.{bench_tests, FaultlessPass, WaitsPass}
 use Rattle.tb_known.proofs.Nothing.{and_true}
 use Rattle.tb_known.proofs.Expressions.{sides_pass}
 use Rattle.tb_known.proofs.Faultless.{statement_passes}

@@ -1,20 +1,12 @@
 -- What the machine does for each kind of statement, over plain variables.
-use Rattle.std.proofs.Common.{◌≡◌, ℕ, Bool, List, [], ◌∷◌, ◌++◌, map, Option, Some, slice_get, if◌then◌else◌, refl, ap, ◌∙◌}
-use Rattle.vlog_syntax.specs.declared.expr.Expr.{Expr}
-use Rattle.vlog_syntax.specs.declared.stmt.Assignment.{Assignment}
+use Rattle.tb_machine.proofs.Common.{◌≡◌, ℕ, Bool, List, [], ◌∷◌, ◌++◌, map, Option, Some, slice_get, if◌then◌else◌, refl, ap, ◌∙◌, Expr, Assignment, Event, Node, Frame, World, Meaning, Do, Goes}
+use Rattle.tb_machine.proofs.Common.{Tree, works, work_of, node_step, optional_do, choice_labels, choice_at, choice_do, IsStep}
 use Rattle.vlog_syntax.specs.declared.stmt.CaseKind.{CaseKind}
-use Rattle.tb_machine.specs.declared.event.Event.{Event}
 use Rattle.tb_machine.specs.declared.machine.Stepped.{Stepped}
 use Rattle.tb_machine.specs.declared.machine.Stepped.TheVariants as d
 use Rattle.tb_machine.specs.declared.node.Choice.{Choice}
-use Rattle.tb_machine.specs.declared.node.Node.{Node}
 use Rattle.tb_machine.specs.declared.node.Node.TheVariants as n
-use Rattle.tb_machine.specs.declared.node.Frame.{Frame}
 use Rattle.tb_machine.specs.declared.node.Frame.TheVariants as f
-use Rattle.tb_machine.specs.Worlds.{World}
-use Rattle.tb_machine.specs.Steps.{Meaning, Do, Goes}
-use Rattle.tb_machine.specs.Nodes.{Tree, works, work_of, node_step, optional_do, choice_labels, choice_at, choice_do}
-use Rattle.tb_machine.specs.Machine.{IsStep}
 use Rattle.tb_machine.proofs.Stacks.{works-push}
 
 -- a stack on which one frame was pushed

@@ -1,13 +1,7 @@
 -- A process goes on by one step.
-use Rattle.std.proofs.Common.{◌≡◌, ℕ, suc, zero, ◌-◌, ◌<◌, List, [], ◌∷◌, ◌++◌, refl, ap, sym, ◌∙◌, arith}
-use Rattle.tb_machine.specs.declared.event.Event.{Event}
+use Rattle.tb_machine.proofs.Common.{◌≡◌, ℕ, suc, zero, ◌-◌, ◌<◌, List, [], ◌∷◌, ◌++◌, refl, ap, sym, ◌∙◌, arith, Event, Node, Frame, World, Meaning, Work, Step, Goes, Waits, Finishes, step, goes_on}
+use Rattle.tb_machine.proofs.Common.{Ran, Pauses, Finished, Suspended, Tree, works, work_of, IsStep}
 use Rattle.tb_machine.specs.declared.machine.Stepped.TheVariants as d
-use Rattle.tb_machine.specs.declared.node.Node.{Node}
-use Rattle.tb_machine.specs.declared.node.Frame.{Frame}
-use Rattle.tb_machine.specs.Worlds.{World}
-use Rattle.tb_machine.specs.Steps.{Meaning, Work, Step, Goes, Waits, Finishes, step, goes_on, Ran, Pauses, Finished, Suspended}
-use Rattle.tb_machine.specs.Nodes.{Tree, works, work_of}
-use Rattle.tb_machine.specs.Machine.{IsStep}
 use Rattle.tb_machine.proofs.Stacks.{works-push}
 
 pub step_goes : (nodes : List Node) (tree : Tree) (stack : List Frame) (v : World) (r : Step) → IsStep nodes tree d.Goes stack v r → r ≡ Goes (works nodes tree stack) v

@@ -1,16 +1,9 @@
 -- What the machine does at the test of a loop, over plain variables.
-use Rattle.std.proofs.Common.{◌≡◌, ℕ, suc, zero, ◌-◌, ◌<◌, ◌≤◌, Bool, true, false, List, [], ◌∷◌, ◌++◌, Some, slice_get, refl, ◌∙◌, arith, if◌then◌else◌}
-use Rattle.vlog_syntax.specs.declared.expr.Expr.{Expr}
-use Rattle.vlog_syntax.specs.declared.stmt.Assignment.{Assignment}
+use Rattle.tb_machine.proofs.Common.{◌≡◌, ℕ, suc, zero, ◌-◌, ◌<◌, Bool, true, false, List, [], ◌∷◌, ◌++◌, Some, slice_get, refl, ◌∙◌, arith, if◌then◌else◌, Expr, Assignment, Node, Frame, World}
+use Rattle.tb_machine.proofs.Common.{Meaning, Turns, assign, step, Tree, works, work_of, loop_work, IsStep}
 use Rattle.tb_machine.specs.declared.machine.Stepped.TheVariants as d
-use Rattle.tb_machine.specs.declared.node.Node.{Node}
 use Rattle.tb_machine.specs.declared.node.Node.TheVariants as n
-use Rattle.tb_machine.specs.declared.node.Frame.{Frame}
 use Rattle.tb_machine.specs.declared.node.Frame.TheVariants as f
-use Rattle.tb_machine.specs.Worlds.{World}
-use Rattle.tb_machine.specs.Steps.{Meaning, Turns, assign, step}
-use Rattle.tb_machine.specs.Nodes.{Tree, works, work_of, loop_work}
-use Rattle.tb_machine.specs.Machine.{IsStep}
 use Rattle.tb_machine.proofs.Stacks.{works-push}
 
 pub works-push-two : (nodes : List Node) (tree : Tree) (stack one two : List Frame) (x y : Frame) → one ≡ stack ++ x ∷ [] → two ≡ one ++ y ∷ [] → works nodes tree two ≡ work_of nodes tree y ∷ work_of nodes tree x ∷ works nodes tree stack
@@ -27,10 +20,6 @@ while_turn nodes tree m first number stack w {x = x} {body = body} {one = one} {
 
 pub while_end : (nodes : List Node) (tree : Tree) (m : Meaning) (first : Bool) (stack : List Frame) (w : World) {node : Node} {x : Expr} {body : ℕ} {v : World} {taken : Bool} → node ≡ n.While x body → (taken, v) ≡ m.holds x w → taken ≡ false → IsStep nodes tree d.Goes stack v (step m (loop_work tree first (Some node)) (works nodes tree stack) w)
 while_end nodes tree m first stack w {x = x} {body = body} is drawn here = rw (is, ← drawn, here) (refl, refl)
-
-pub turns_end : (nodes : List Node) (tree : Tree) (m : Meaning) (stack : List Frame) (w : World) (count body : ℕ) → count ≤ 0 → IsStep nodes tree d.Goes stack w (step m (Turns count (tree body)) (works nodes tree stack) w)
-turns_end nodes tree m stack w zero body h = (refl, refl)
-turns_end nodes tree m stack w (suc k) body h = absurd (omega arith)
 
 pub turns_turn : (nodes : List Node) (tree : Tree) (m : Meaning) (stack : List Frame) (w : World) (count body : ℕ) {one two : List Frame} → 0 < count → one ≡ stack ++ f.Turns (count - 1) body ∷ [] → two ≡ one ++ f.Do body ∷ [] → IsStep nodes tree d.Goes two w (step m (Turns count (tree body)) (works nodes tree stack) w)
 turns_turn nodes tree m stack w zero body h e g = absurd (omega arith)

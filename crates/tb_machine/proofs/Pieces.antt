@@ -1,9 +1,7 @@
 -- A simulation in pieces is the simulation at once, and there is only one.
-use Rattle.std.proofs.Common.{◌≡◌, ℕ, zero, suc, ◌+◌, true, false, List, refl, sym, ◌∙◌, subst, arith}
+use Rattle.tb_machine.proofs.Common.{◌≡◌, ℕ, zero, suc, ◌+◌, true, false, List, refl, sym, ◌∙◌, subst, arith, World, all_applied, Suspended, Ran, Pauses, Finished, TooLong, Setting, State, Ending}
+use Rattle.tb_machine.proofs.Common.{Going, Finish, Limit, IsEnd, IsPhaseOf, IsPhase, active_part}
 use Rattle.rand_pcg.specs.Lcg.{Lcg}
-use Rattle.tb_machine.specs.Worlds.{World, all_applied}
-use Rattle.tb_machine.specs.Steps.{Suspended, Ran, Pauses, Finished, TooLong}
-use Rattle.tb_machine.specs.Phases.{Setting, State, Ending, Going, Finish, Limit, IsEnd, IsPhaseOf, IsPhase, active_part}
 use Rattle.tb_machine.specs.Simulations.{Outcome, outcome, Reaches, IsSimulation}
 use Rattle.tb_machine.specs.Laws.{SettlesOnce}
 

@@ -1,7 +1,6 @@
 -- Numbers of bits that stand side by side.
-use Rattle.std.proofs.Common.{◌≡◌, ℕ, ◌+◌, ◌-◌, ◌*◌, ◌/◌, ◌%◌, ◌<◌, ◌≤◌, ◌^◌, arith}
+use Rattle.tb_machine.proofs.Common.{◌≡◌, ℕ, ◌+◌, ◌-◌, ◌*◌, ◌/◌, ◌%◌, ◌<◌, ◌≤◌, ◌^◌, arith, pow-add, pow_pos, mul-add-lt, shl_whole, shr_below}
 use Rattle.std.proofs.Math.Pow.{pow_mono}
-use Rattle.std.proofs.lemmas.Nat.{pow-add, pow_pos, mul-add-lt, shl_whole, shr_below}
 
 -- a number behind the places of another
 joined_below : (q r j k : ℕ) → q < 2 ^ j → r < 2 ^ k → q * 2 ^ k + r < 2 ^ (k + j)

@@ -1,10 +1,6 @@
 -- Stacks of frames.
-use Rattle.std.proofs.Common.{◌≡◌, ℕ, suc, zero, ◌<◌, List, [], ◌∷◌, ◌++◌, map, length, drop, drop-cons, get_or, refl, ap, arith, length-append}
-use Rattle.std.proofs.lemmas.List.Elements.{All-append}
-use Rattle.tb_machine.specs.declared.node.Node.{Node}
-use Rattle.tb_machine.specs.declared.node.Frame.{Frame}
-use Rattle.tb_machine.specs.Steps.{Work, Do}
-use Rattle.tb_machine.specs.Nodes.{Tree, works, work_of, FramesBelow, frame_number}
+use Rattle.tb_machine.proofs.Common.{◌≡◌, ℕ, suc, zero, ◌<◌, List, [], ◌∷◌, ◌++◌, map, length, drop, drop-cons, get_or, refl, ap, arith, All-append, Node, Frame, Work, Do, Tree, works, work_of}
+use Rattle.tb_machine.proofs.Common.{FramesBelow, frame_number}
 
 -- what is pushed comes next
 pub works-push : (nodes : List Node) (tree : Tree) (stack : List Frame) (x : Frame) → works nodes tree (stack ++ x ∷ []) ≡ work_of nodes tree x ∷ works nodes tree stack
@@ -17,15 +13,6 @@ below-one limit x h (suc i) d k = absurd (omega arith)
 
 pub below-push : (limit : ℕ) (stack : List Frame) (x : Frame) → FramesBelow limit stack → frame_number x < limit → FramesBelow limit (stack ++ x ∷ [])
 below-push limit stack x below h = All-append (λ y. frame_number y < limit) stack (x ∷ []) below (below-one limit x h)
-
-pub below-left : (limit : ℕ) (stack : List Frame) (x : Frame) → FramesBelow limit (stack ++ x ∷ []) → FramesBelow limit stack
-below-left limit [] x below i d k = absurd (omega arith)
-below-left limit (y ∷ more) x below zero d k = below 0 d (omega (arith, length-append more (x ∷ [])))
-below-left limit (y ∷ more) x below (suc i) d k = below-left limit more x (λ j e h. below (suc j) e (omega arith)) i d (omega arith)
-
-pub below-last : (limit : ℕ) (stack : List Frame) (x : Frame) → FramesBelow limit (stack ++ x ∷ []) → frame_number x < limit
-below-last limit [] x below = below 0 x (omega arith)
-below-last limit (y ∷ more) x below = below-last limit more x (λ j e h. below (suc j) e (omega arith))
 
 -- one more statement of a block, from its end
 pub block-step : (tree : Tree) (body : List ℕ) (i j : ℕ) (work : List Work) → j ≡ suc i → i < length body → Do (tree (get_or body i 0)) ∷ (map (λ k. Do (tree k)) (drop j body) ++ work) ≡ map (λ k. Do (tree k)) (drop i body) ++ work

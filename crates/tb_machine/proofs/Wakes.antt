@@ -1,14 +1,8 @@
 -- Processes that go on one after the other, over plain variables.
-use Rattle.std.proofs.Common.{◌≡◌, ℕ, suc, zero, ◌+◌, ◌<◌, ◌≤◌, true, false, List, [], ◌∷◌, ◌++◌, length, take, drop, drop-cons, set, get_or, refl, ap, ◌∙◌, arith, add-one}
-use Rattle.tb_machine.specs.declared.event.Event.{Event}
+use Rattle.tb_machine.proofs.Common.{◌≡◌, ℕ, suc, zero, ◌+◌, ◌<◌, ◌≤◌, List, [], ◌∷◌, ◌++◌, length, take, drop, drop-cons, set, get_or, refl, ap, ◌∙◌, arith, add-one, Event, Node, World, Meaning, Ran}
+use Rattle.tb_machine.proofs.Common.{Pauses, Finished, TooLong, Suspended, woken, before, all_woken, Tree, IsRan, suspended, all_suspended}
 use Rattle.tb_machine.specs.declared.machine.Ended.TheVariants as e
-use Rattle.tb_machine.specs.declared.node.Node.{Node}
 use Rattle.tb_machine.specs.declared.node.Process.{Process}
-use Rattle.tb_machine.specs.Worlds.{World}
-use Rattle.tb_machine.specs.Steps.{Meaning, goes_on, Ran, Pauses, Finished, TooLong, Suspended}
-use Rattle.tb_machine.specs.Phases.{waits_for, woken, before, all_woken}
-use Rattle.tb_machine.specs.Nodes.{Tree}
-use Rattle.tb_machine.specs.Machine.{IsRan, suspended, all_suspended}
 
 pub ran_pauses : (nodes : List Node) (tree : Tree) (n : ℕ) (p : Process) (v : World) (r : Ran Suspended) → IsRan nodes tree e.Pauses n p v r → r ≡ Pauses n (suspended nodes tree p) v
 ran_pauses nodes tree n p v (Pauses left q w) h = rw (h.0, h.1, h.2) refl
@@ -55,17 +49,6 @@ pub drop-next : (ss : List Suspended) (i : ℕ) (q : Suspended) → drop (suc i)
 drop-next [] i q = refl
 drop-next (s ∷ ss) zero q = refl
 drop-next (s ∷ ss) (suc i) q = drop-next ss i q
-
-pub set-same : (ss : List Suspended) (i : ℕ) (p : Suspended) → i < length ss → p ≡ get_or ss i p → set ss i p ≡ ss
-set-same [] i p h is = refl
-set-same (s ∷ ss) zero p h is = rw (← is) refl
-set-same (s ∷ ss) (suc i) p h is = ap (λ (l : List Suspended). s ∷ l) (set-same ss i p (omega arith) is)
-
-pub woken_yes : (m : Meaning) (event : Event) (left : ℕ) (p : Suspended) (w : World) → waits_for p.event event ≡ true → woken m event left p w ≡ goes_on m p.event left p.work w
-woken_yes m event left p w here = rw here refl
-
-pub woken_no : (m : Meaning) (event : Event) (left : ℕ) (p : Suspended) (w : World) → waits_for p.event event ≡ false → woken m event left p w ≡ Pauses left p w
-woken_no m event left p w here = rw here refl
 
 abbrev after_woken : Meaning → Event → List Suspended → Ran Suspended → Ran (List Suspended)
 after_woken m event more (Pauses n q v) = before q (all_woken m event n more v)

@@ -1,12 +1,9 @@
 -- Words that get new values, as a whole or by updates.
-use Rattle.std.proofs.Common.{◌≡◌, ℕ, zero, suc, ◌+◌, ◌<◌, List, [], ◌∷◌, map, length, drop, get_or, set, slice_index, refl, ap, sym, subst, arith}
+use Rattle.tb_machine.proofs.Common.{◌≡◌, ℕ, zero, suc, ◌+◌, ◌<◌, List, [], ◌∷◌, map, length, drop, get_or, set, slice_index, refl, ap, sym, subst, arith, All, All-tail, applied, all_applied, Fits}
 use Rattle.std.proofs.Math.Seq.{map-set}
-use Rattle.std.specs.List.{All}
 use Rattle.std.proofs.lemmas.List.{drop_more}
-use Rattle.std.proofs.lemmas.List.Elements.{All-tail}
 use Rattle.mcy_base.specs.declared.word.Word.{Word}
 use Rattle.tb_machine.specs.declared.update.Update.{Update}
-use Rattle.tb_machine.specs.Worlds.{applied, all_applied, Fits}
 
 -- what is told of the word at a place
 pub told_at : (f : Word → ℕ) (ws : List Word) (k : ℕ) (w : Word) → w ≡ get_or ws k w → k < length ws → f w ≡ slice_index (map f ws) k

@@ -12,22 +12,9 @@ use Rattle.tb_machine.specs.Worlds.{World}
 use Rattle.tb_machine.specs.Steps.{Step, Goes, Waits, Finishes, Ran, Pauses, Finished, TooLong, Suspended}
 use Rattle.tb_machine.specs.Nodes.{Tree, works, FramesBelow}
 
--- the answer, the stack and the world are those of a step
-abbrev pub IsStep : List Node → Tree → Stepped → List Frame → World → Step → Type 0
-IsStep nodes tree d.Goes stack v (Goes work w) = (works nodes tree stack ≡ work) × (v ≡ w)
-IsStep nodes tree (d.Waits x) stack v (Waits y work w) = (x ≡ y) × (works nodes tree stack ≡ work) × (v ≡ w)
-IsStep nodes tree d.Finishes stack v (Finishes w) = v ≡ w
-IsStep nodes tree answer stack v result = ⊥
-
 -- the process that a stack stands for
 abbrev pub suspended : List Node → Tree → Process → Suspended
 suspended nodes tree p = record { event = p.event; work = works nodes tree p.stack.items }
-
-abbrev pub IsRan : List Node → Tree → Ended → ℕ → Process → World → Ran Suspended → Type 0
-IsRan nodes tree e.Pauses n p v (Pauses left q w) = (n ≡ left) × (suspended nodes tree p ≡ q) × (v ≡ w)
-IsRan nodes tree e.Finished n p v (Finished w) = v ≡ w
-IsRan nodes tree e.TooLong n p v (TooLong w) = v ≡ w
-IsRan nodes tree answer n p v result = ⊥
 
 -- the processes that a list stands for
 abbrev pub all_suspended : List Node → Tree → List Process → List Suspended
@@ -45,3 +32,18 @@ StackBelow limit p = FramesBelow limit p.stack.items
 
 abbrev pub StacksBelow : ℕ → List Process → Type 0
 StacksBelow limit ps = All (StackBelow limit) ps
+
+-- For proofs alone.
+
+-- the answer, the stack and the world are those of a step
+abbrev pub IsStep : List Node → Tree → Stepped → List Frame → World → Step → Type 0
+IsStep nodes tree d.Goes stack v (Goes work w) = (works nodes tree stack ≡ work) × (v ≡ w)
+IsStep nodes tree (d.Waits x) stack v (Waits y work w) = (x ≡ y) × (works nodes tree stack ≡ work) × (v ≡ w)
+IsStep nodes tree d.Finishes stack v (Finishes w) = v ≡ w
+IsStep nodes tree answer stack v result = ⊥
+
+abbrev pub IsRan : List Node → Tree → Ended → ℕ → Process → World → Ran Suspended → Type 0
+IsRan nodes tree e.Pauses n p v (Pauses left q w) = (n ≡ left) × (suspended nodes tree p ≡ q) × (v ≡ w)
+IsRan nodes tree e.Finished n p v (Finished w) = v ≡ w
+IsRan nodes tree e.TooLong n p v (TooLong w) = v ≡ w
+IsRan nodes tree answer n p v result = ⊥

@@ -1,12 +1,9 @@
 -- Bits of numbers.
-use Rattle.std.proofs.Common.{◌≡◌, zero, suc, ℕ, ◌-◌, ◌^◌, ◌/◌, ◌%◌, ◌<◌, ◌≤◌, min, true, false, nat_eq, nat_lt, refl, sym, ap, ◌∙◌, ◌⊎◌, inl, inr, arith}
+use Rattle.tb_nets.proofs.Common.{◌≡◌, zero, suc, ℕ, ◌-◌, ◌^◌, ◌/◌, ◌%◌, ◌<◌, ◌≤◌, min, true, false, nat_eq, nat_lt, refl, sym, ap, ◌∙◌, ◌⊎◌, inl, inr, arith, cases_lt, nat_tests, eqb_tells, has_bit}
+use Rattle.tb_nets.proofs.Common.{shares}
 use Rattle.std.specs.Int.{bit_at}
 use Rattle.std.specs.Int.Bits.{bit_and}
-use Rattle.std.proofs.lemmas.Bool.{cases_lt}
-use Rattle.std.proofs.lemmas.Bool.Decides.{nat_tests, eqb_tells}
 use Rattle.std.proofs.lemmas.Nat.Bits.{bit_at_and, bit_at-lt, bit_at-suc, bit_at_lowest, bit_at-zero, bit_at_ones, bit_at_ones_above}
-use Rattle.signal_masks.specs.Masks.{has_bit}
-use Rattle.tb_nets.specs.Writers.{shares}
 
 is_below : (i w : ℕ) → i < w → true ≡ nat_lt i w
 is_below i w h = grind (arith, nat_tests)

@@ -1,16 +1,10 @@
 -- The table of all writers, and the graph of the nodes, one node more at a time.
-use Rattle.std.proofs.Common.{◌≡◌, ◌≢◌, zero, suc, ℕ, ◌+◌, ◌<◌, ◌≤◌, Bool, true, false, ◌&&◌, ◌||◌, nat_eq, nat_lt, List, [], ◌∷◌, ◌++◌, map, refl, sym, ap, ◌∙◌, subst, inl, inr, arith, length, get_or, slice_get, Option, Some, None}
-use Rattle.std.specs.List.{All, Contains}
-use Rattle.std.proofs.lemmas.Bool.{cases_lt}
-use Rattle.std.proofs.lemmas.Bool.Decides.{eqb_tells, nat_tests}
+use Rattle.tb_nets.proofs.Common.{◌≡◌, ◌≢◌, zero, suc, ℕ, ◌+◌, ◌<◌, ◌≤◌, Bool, true, false, ◌&&◌, ◌||◌, nat_eq, nat_lt, List, [], ◌∷◌, ◌++◌, map, refl, sym, ap, ◌∙◌, subst, inl, inr, arith, length}
+use Rattle.tb_nets.proofs.Common.{get_or, slice_get, Option, Some, None, All, Contains, cases_lt, and_from, eqb_tells, nat_tests, Bits, row_of, NetNode, Writer, Wiring, node_reads, node_writes}
+use Rattle.tb_nets.proofs.Common.{reads_of, writes_of, writes_in, AreWriters, AreWritersOf, IsGraph, or_end}
 use Rattle.std.proofs.lemmas.List.{map-append, length_push, get_or_append_left, get_or_push}
-use Rattle.vlog_meaning.specs.Senses.{Bits}
-use Rattle.net_order.specs.Orders.{row_of}
-use Rattle.tb_nets.specs.declared.node.NetNode.{NetNode}
-use Rattle.tb_nets.specs.declared.table.Writer.{Writer}
-use Rattle.tb_nets.specs.Nets.{Wiring, node_reads, node_writes, reads_of, writes_of}
-use Rattle.tb_nets.specs.Writers.{writes_in, AreWriters, AreWritersOf, IsGraph}
-use Rattle.tb_nets.proofs.Sharing.{and_right, and_both, has_none}
+use Rattle.tb_nets.proofs.Sharing.{has_none}
+use Rattle.vlog_effects.proofs.Bools.{and-right}
 
 pub node_at : (nodes : List NetNode) (k : ℕ) (node : NetNode) → node ≡ get_or nodes k node → k < length nodes → slice_get nodes k ≡ Some node
 node_at [] k node is h = absurd (omega arith)
@@ -29,10 +23,6 @@ not_before d k e = grind (arith, nat_tests)
 same_before : (d k : ℕ) → d ≢ k → nat_lt d k ≡ nat_lt d (k + 1)
 same_before d k ne = grind (arith, nat_tests)
 
-or_none : (b : Bool) → (b || false) ≡ b
-or_none true = refl
-or_none false = refl
-
 -- what one node more writes
 pub more_writers : (w : Wiring) (nodes : List NetNode) (k : ℕ) (node : NetNode) (n i d : ℕ) (old now bits : Bool) → slice_get nodes k ≡ Some node → old ≡ (nat_lt d k && writes_of w (slice_get nodes d) n i) → bits ≡ node_writes w node n i → now ≡ (old || (nat_eq d k && bits)) → now ≡ (nat_lt d (k + 1) && writes_of w (slice_get nodes d) n i)
 more_writers w nodes k node n i d old now bits at before is e = elim (eqb_tells d k) [
@@ -41,7 +31,7 @@ more_writers w nodes k node n i d old now bits at before is e = elim (eqb_tells 
       let gone : old ≡ false = before ∙ ap (λ (b : Bool). b && writes_of w (slice_get nodes d) n i) (not_before d k same.1) in
       e ∙ ap (λ (b : Bool). b || (nat_eq d k && bits)) gone ∙ ap (λ (b : Bool). b && bits) same.0 ∙ sym here ∙ ap (λ (b : Bool). b && writes_of w (slice_get nodes d) n i) (is_next d k same.1)
   | inr other ↦
-      e ∙ ap (λ (b : Bool). old || (b && bits)) other.0 ∙ or_none old ∙ before ∙ ap (λ (b : Bool). b && writes_of w (slice_get nodes d) n i) (same_before d k other.1)
+      e ∙ ap (λ (b : Bool). old || (b && bits)) other.0 ∙ or_end old ∙ before ∙ ap (λ (b : Bool). b && writes_of w (slice_get nodes d) n i) (same_before d k other.1)
 ]
 
 pub none_written : (w : Wiring) (nodes : List NetNode) (n i d : ℕ) → false ≡ (nat_lt d 0 && writes_of w (slice_get nodes d) n i)
@@ -58,7 +48,7 @@ pub record AreRows (w : Wiring) (nodes : List NetNode) (writes : ℕ → ℕ →
 pub no_rows : (w : Wiring) (nodes : List NetNode) (writes : ℕ → ℕ → ℕ → Bool) → AreRows w nodes writes 0 []
 no_rows w nodes writes = record { count = refl; each = λ c node below at. absurd (omega arith) }
 
-same_node : (a b : NetNode) → Some a ≡ Some b → a ≡ b
+pub same_node : (a b : NetNode) → Some a ≡ Some b → a ≡ b
 same_node a b e = cc
 
 pub more_rows : (w : Wiring) (nodes : List NetNode) (writes : ℕ → ℕ → ℕ → Bool) (k : ℕ) (rows : List (List ℕ)) (node : NetNode) (row : List ℕ) → slice_get nodes k ≡ Some node → AreWritersOf writes (node_reads w node) row → AreRows w nodes writes k rows → AreRows w nodes writes (k + 1) (rows ++ row ∷ [])
@@ -101,7 +91,7 @@ row_past [] c h = refl
 row_past (x ∷ xs) zero h = absurd (omega arith)
 row_past (x ∷ xs) (suc c) h = row_past xs c (omega arith)
 
-below_is : (d k : ℕ) → d < k → nat_lt d k ≡ true
+pub below_is : (d k : ℕ) → d < k → nat_lt d k ≡ true
 below_is d k h = grind (arith, nat_tests)
 
 pub graph_is : (w : Wiring) (nodes : List NetNode) (table : List (List Writer)) (graph : List (List ℕ)) (k : ℕ) → length nodes ≤ k → k ≤ length nodes → AreWriters w nodes (length nodes) table → AreRows w nodes (writes_in table) k graph → IsGraph w nodes graph
@@ -112,12 +102,12 @@ graph_is w nodes table graph k past within writers rows = record {
         let at = get_inside nodes c (omega arith) in
         let one = (rows.each c at.0 below at.1).sound d has in
         let reads : reads_of w (slice_get nodes c) one.0 one.1 ≡ true = ap (λ (o : Option NetNode). reads_of w o one.0 one.1) at.1 ∙ one.2 in
-        (one.0, one.1, reads, and_right (nat_lt d (length nodes)) (writes_of w (slice_get nodes d) one.0 one.1) (sym (writers one.0 one.1 d) ∙ one.3))
+        (one.0, one.1, reads, and-right (nat_lt d (length nodes)) (writes_of w (slice_get nodes d) one.0 one.1) (sym (writers one.0 one.1 d) ∙ one.3))
     | inr above ↦ absurd (has_none d (subst (λ (l : List ℕ). Contains l d) (row_past graph c (let count = rows.count in omega (arith, count))) has))
   ];
   covers = λ c d r.
       let reader = reader_inside w nodes c r.0 r.1 r.2 in
       let writer = writer_inside w nodes d r.0 r.1 r.3 in
       let reads : node_reads w reader.0 r.0 r.1 ≡ true = ap (λ (o : Option NetNode). reads_of w o r.0 r.1) (sym reader.1) ∙ r.2 in
-      (rows.each c reader.0 (let inside = reader.2 in omega (arith, inside)) reader.1).covers d r.0 r.1 reads (writers r.0 r.1 d ∙ and_both (nat_lt d (length nodes)) (writes_of w (slice_get nodes d) r.0 r.1) (below_is d (length nodes) writer.2) r.3);
+      (rows.each c reader.0 (let inside = reader.2 in omega (arith, inside)) reader.1).covers d r.0 r.1 reads (writers r.0 r.1 d ∙ and_from (nat_lt d (length nodes)) (writes_of w (slice_get nodes d) r.0 r.1) (below_is d (length nodes) writer.2) r.3);
 }

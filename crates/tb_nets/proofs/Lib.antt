@@ -1,7 +1,8 @@
+mod Common
 mod Bits
 mod Opens
 mod Signals
 mod Tables
 mod Sharing
-mod Graphs
+pub mod Graphs
 mod Answering

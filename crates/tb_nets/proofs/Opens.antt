@@ -1,5 +1,6 @@
 -- Which bits are written where the place of a select is no constant.
-use Rattle.std.proofs.Common.{◌≡◌, zero, suc, ℕ, ◌<◌, Bool, true, false, not, ◌&&◌, ◌||◌, List, [], ◌∷◌, ◌++◌, map, refl, sym, ap, ◌∙◌, subst, arith, length, get_or, take}
+use Rattle.tb_nets.proofs.Common.{◌≡◌, zero, suc, ℕ, ◌<◌, Bool, true, false, not, ◌&&◌, ◌||◌, List, [], ◌∷◌, ◌++◌, map, refl, sym, ap, ◌∙◌, subst, arith, length, get_or, take, Names, decl_shape}
+use Rattle.tb_nets.proofs.Common.{sense, is_empty, name_bits, Whole, Bit, Range, Indexed, Part, parts_of, concatenated, part_opens, parts_open, after, or_end}
 use Rattle.std.specs.Prelude.{Option, Some, None}
 use Rattle.std.specs.Option.{is_none}
 use Rattle.mcy_base.specs.declared.span.Span.{Span}
@@ -10,14 +11,10 @@ use Rattle.vlog_syntax.specs.declared.left_side.LeftSide.TheVariants as lv
 use Rattle.vlog_meaning.specs.declared.fault.Fault.{Fault}
 use Rattle.vlog_meaning.specs.Answers.{least}
 use Rattle.vlog_meaning.specs.Operators.{IsSized}
-use Rattle.vlog_meaning.specs.Scopes.{Names, decl_shape}
-use Rattle.vlog_meaning.specs.Senses.{sense, is_empty, name_bits}
 use Rattle.vlog_meaning.proofs.Firsts.{least_none}
 use Rattle.vlog_meaning.proofs.Refusals.{least_empty}
-use Rattle.vlog_effects.specs.LeftSides.{Whole, Bit, Range, Indexed, Part, parts_of, concatenated}
 use Rattle.vlog_effects.proofs.Folds.{parts-name, parts-bit, parts-range, parts-indexed, parts-concatenation}
 use Rattle.signal_masks.specs.Parts.{AreFit}
-use Rattle.tb_nets.specs.Lefts.{part_opens, parts_open}
 
 pub none_read : (xs : List Fault) (o : Option Fault) (b : Bool) → o ≡ least xs → b ≡ is_none o → b ≡ is_empty xs
 none_read [] o b is test = test ∙ ap is_none (is ∙ sym least_empty)
@@ -26,10 +23,6 @@ none_read (x ∷ xs) o b is test = go o is test
     go : (o : Option Fault) → o ≡ least (x ∷ xs) → b ≡ is_none o → b ≡ false
     go (Some f) is test = test
     go None is test = let none = least_none _ (sym is) in cc
-
-pub or_end : (b : Bool) → (b || false) ≡ b
-or_end true = refl
-or_end false = refl
 
 pub opened : (test bits old new : Bool) → test ≡ false → new ≡ (old || bits) → new ≡ (old || (not test && bits))
 opened false bits old new e f = f
@@ -58,10 +51,6 @@ module _ (names : Names) (left : LeftSide) (n i : ℕ) (old new : Bool) where
   pub open_joined : (at : Span) (parts : List LeftSide) → left ≡ lv.Concatenation at parts → new ≡ (old || parts_open names (concatenated (map parts_of parts)) n i) → new ≡ (old || parts_open names (parts_of left) n i)
   open_joined at parts is e = e ∙ ap (λ (ps : List Part). old || parts_open names ps n i) (sym (ap parts_of is ∙ parts-concatenation at parts))
 
-pub after : (a b c : Bool) → (a || (b || c)) ≡ ((a || b) || c)
-after true b c = refl
-after false b c = refl
-
 open_both : (names : Names) (xs ys : List Part) (n i : ℕ) → parts_open names (xs ++ ys) n i ≡ (parts_open names xs n i || parts_open names ys n i)
 open_both names [] ys n i = refl
 open_both names (x ∷ xs) ys n i = ap (λ (b : Bool). part_opens names x n i || b) (open_both names xs ys n i) ∙ after (part_opens names x n i) (parts_open names xs n i) (parts_open names ys n i)
@@ -80,19 +69,6 @@ more_open names xs k x n i old before now is h e f =
     f ∙ ap (λ (b : Bool). b || parts_open names (parts_of x) n i) e ∙ sym (after old (parts_open names (concatenated (map parts_of (take k xs))) n i) (parts_open names (parts_of x) n i)) ∙ ap (λ (b : Bool). old || b) (sym (open_take names xs k x n i is h))
 
 -- Parts that fit.
-
-fit_left : (names : Names) (xs ys : List Part) → AreFit names (xs ++ ys) → AreFit names xs
-fit_left names [] ys f = tt
-fit_left names (x ∷ xs) ys f = (f.0, fit_left names xs ys f.1)
-
-fit_right : (names : Names) (xs ys : List Part) → AreFit names (xs ++ ys) → AreFit names ys
-fit_right names [] ys f = f
-fit_right names (x ∷ xs) ys f = fit_right names xs ys f.1
-
-pub fit_element : (names : Names) (xs : List LeftSide) (k : ℕ) (x : LeftSide) → x ≡ get_or xs k x → k < length xs → AreFit names (concatenated (map parts_of xs)) → AreFit names (parts_of x)
-fit_element names [] k x is h f = absurd (omega arith)
-fit_element names (y ∷ ys) zero x is h f = subst (λ (z : LeftSide). AreFit names (parts_of z)) (sym is) (fit_left names (parts_of y) (concatenated (map parts_of ys)) f)
-fit_element names (y ∷ ys) (suc k) x is h f = fit_element names ys k x is (omega arith) (fit_right names (parts_of y) (concatenated (map parts_of ys)) f)
 
 module _ (names : Names) (left : LeftSide) (f : AreFit names (parts_of left)) where
   of_parts : (ps : List Part) → parts_of left ≡ ps → AreFit names ps

@@ -1,8 +1,5 @@
 -- The bits of whole signals, one signal more at a time.
-use Rattle.std.proofs.Common.{◌≡◌, zero, suc, ℕ, ◌<◌, Bool, ◌&&◌, ◌||◌, nat_eq, nat_lt, List, [], ◌∷◌, sym, ap, ◌∙◌, arith, length, get_or, take}
-use Rattle.signal_masks.specs.Masks.{has_bit}
-use Rattle.tb_nets.specs.Nets.{signal_bits}
-use Rattle.tb_nets.proofs.Opens.{or_end, after}
+use Rattle.tb_nets.proofs.Common.{◌≡◌, zero, suc, ℕ, ◌<◌, Bool, ◌&&◌, ◌||◌, nat_eq, nat_lt, List, [], ◌∷◌, sym, ap, ◌∙◌, arith, length, get_or, take, has_bit, signal_bits, or_end, after}
 
 signals_take : (ks : List ℕ) (k d n i : ℕ) → k < length ks → signal_bits (take (suc k) ks) n i ≡ (signal_bits (take k ks) n i || (nat_eq n (get_or ks k d) && nat_lt i 128))
 signals_take [] k d n i h = absurd (omega arith)

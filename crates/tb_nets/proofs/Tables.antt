@@ -1,13 +1,7 @@
 -- The table of writers, one writer more at a time.
-use Rattle.std.proofs.Common.{◌≡◌, zero, suc, ℕ, ◌<◌, Bool, true, false, ◌&&◌, ◌||◌, nat_eq, List, [], ◌∷◌, ◌++◌, map, set, refl, sym, ap, ◌∙◌, inl, inr, arith, length, get_or, take}
-use Rattle.std.specs.Prelude.{slice_index_or}
-use Rattle.std.proofs.lemmas.Bool.Decides.{eqb_tells}
+use Rattle.tb_nets.proofs.Common.{◌≡◌, zero, suc, ℕ, ◌<◌, Bool, true, false, ◌&&◌, ◌||◌, nat_eq, List, [], ◌∷◌, ◌++◌, map, set, refl, sym, ap, ◌∙◌, inl, inr, arith, length, get_or, take}
+use Rattle.tb_nets.proofs.Common.{slice_index_or, eqb_tells, Mask, has_bit, bits_in, Writer, some_writes, writes_in, parted, or_end, bits_take, after}
 use Rattle.std.proofs.lemmas.List.{map-set, get_or-map, length-map, get_or-set_same, get_or-set_other}
-use Rattle.signal_masks.specs.declared.mask.Mask.{Mask}
-use Rattle.signal_masks.specs.Masks.{has_bit, bits_in}
-use Rattle.tb_nets.specs.declared.table.Writer.{Writer}
-use Rattle.tb_nets.specs.Writers.{some_writes, writes_in}
-use Rattle.tb_nets.proofs.Opens.{or_end, after}
 
 -- an empty list more
 pub push_room : {V : Type 0} (items : V → List Writer) (ws : List V) (v : V) (n : ℕ) → items v ≡ [] → slice_index_or (map items (ws ++ v ∷ [])) n [] ≡ slice_index_or (map items ws) n []
@@ -57,33 +51,15 @@ pushed_on before mid now n i d b same e = e ∙ ap (λ (l : List Writer). some_w
 
 -- Masks one after the other.
 
-bits_take : (ms : List Mask) (k : ℕ) (m : Mask) (n i : ℕ) → m ≡ get_or ms k m → k < length ms → bits_in (take (suc k) ms) n i ≡ (bits_in (take k ms) n i || (nat_eq n m.number && has_bit m.bits i))
-bits_take [] k m n i is h = absurd (omega arith)
-bits_take (x ∷ more) zero m n i is h = ap (λ (z : Mask). (nat_eq n z.number && has_bit z.bits i) || false) (sym is) ∙ or_end (nat_eq n m.number && has_bit m.bits i)
-bits_take (x ∷ more) (suc k) m n i is h = ap (λ (b : Bool). (nat_eq n x.number && has_bit x.bits i) || b) (bits_take more k m n i is (omega arith)) ∙ after (nat_eq n x.number && has_bit x.bits i) (bits_in (take k more) n i) (nat_eq n m.number && has_bit m.bits i)
-
-both : (t a b : Bool) → ((t && a) || (t && b)) ≡ (t && (a || b))
-both true a b = refl
-both false a b = refl
-
--- an item of a list, whatever stands for one past its end
-pub any_default : (ms : List Mask) (k : ℕ) (d e : Mask) → k < length ms → get_or ms k d ≡ get_or ms k e
-any_default [] k d e h = absurd (omega arith)
-any_default (x ∷ more) zero d e h = refl
-any_default (x ∷ more) (suc k) d e h = any_default more k d e (omega arith)
-
 pub more_masks : (ms : List Mask) (k : ℕ) (m : Mask) (n i : ℕ) (test old before now : Bool) → m ≡ get_or ms k m → k < length ms → before ≡ (old || (test && bits_in (take k ms) n i)) → now ≡ (before || (test && (nat_eq n m.number && has_bit m.bits i))) → now ≡ (old || (test && bits_in (take (suc k) ms) n i))
 more_masks ms k m n i test old before now is h e f =
     f ∙ ap (λ (b : Bool). b || (test && (nat_eq n m.number && has_bit m.bits i))) e
     ∙ sym (after old (test && bits_in (take k ms) n i) (test && (nat_eq n m.number && has_bit m.bits i)))
-    ∙ ap (λ (b : Bool). old || b) (both test (bits_in (take k ms) n i) (nat_eq n m.number && has_bit m.bits i))
+    ∙ ap (λ (b : Bool). old || b) (parted test (bits_in (take k ms) n i) (nat_eq n m.number && has_bit m.bits i))
     ∙ ap (λ (b : Bool). old || (test && b)) (sym (bits_take ms k m n i is h))
 
-no_masks : (test old : Bool) → old ≡ (old || (test && false))
+pub no_masks : (test old : Bool) → old ≡ (old || (test && false))
 no_masks true true = refl
 no_masks true false = refl
 no_masks false true = refl
 no_masks false false = refl
-
-pub none_yet : (test old : Bool) → old ≡ (old || (test && false))
-none_yet = no_masks

@@ -10,6 +10,8 @@ use Rattle.tb_nets.specs.declared.table.Writer.{Writer}
 use Rattle.tb_nets.specs.declared.table.Writers.{Writers}
 use Rattle.tb_nets.specs.Nets.{Wiring, writes_of, ReadsNode}
 
+-- For proofs alone.
+
 -- one of the writers is node d and writes bit i
 abbrev pub some_writes : List Writer → ℕ → ℕ → Bool
 some_writes [] i d = false

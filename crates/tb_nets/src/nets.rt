@@ -42,7 +42,7 @@ impl Nets {
         ensures { IfOk result (IsNetted (wiring (names_of scope.now) inputs.now outputs.now) nodes.items) }
     {
         let graph = graph_of(alloc, nodes.as_slice(), inputs, outputs, scope)?;
-        match order(alloc, graph.as_slice())? {
+        match order(alloc, graph)? {
             Ordered::Order(order) => Ok(Netted::Ready(Nets {
                 nodes: Listed::from_vec(nodes),
                 order: Items::from_vec(order),

@@ -1,11 +1,5 @@
 -- A bench with different designs.
-use Rattle.std.proofs.Common.{◌≡◌, ℕ, List, [], ◌∷◌, map, length, refl, sym, ap}
-use Rattle.netlist_core.specs.declared.bit.Bit.{Bit}
-use Rattle.netlist_core.specs.Runs.{bits_at}
-use Rattle.tb_machine.specs.Phases.{event_of_phase}
-use Rattle.tb_evaluator.specs.Meanings.{meaning}
-use Rattle.tb_settling.specs.Settling.{assigns_of, values_at, whole_updates}
-use Rattle.tb_bench.specs.Settings.{names, widths, begun, with_clock}
+use Rattle.tb_once.proofs.Common.{◌≡◌, ℕ, List, [], ◌∷◌, map, length, refl, sym, ap, Bit, bits_at, event_of_phase, meaning, assigns_of, values_at, whole_updates, names, widths, begun, with_clock}
 use Rattle.tb_once.specs.Laws.{SettingsByDesign, StartsByRegisters}
 
 empty_is_not : (n : ℕ) (ns : List ℕ) → [] ≡ n ∷ ns → ⊥

@@ -1,9 +1,7 @@
 -- Simulations from one state come to one outcome, and end in one phase, where stores stay of a kind from which what settles is determined.
-use Rattle.std.proofs.Common.{◌≡◌, ℕ, zero, suc, ◌<◌, true, false, List, refl, sym, ◌∙◌, subst, arith}
+use Rattle.tb_once.proofs.Common.{◌≡◌, ℕ, zero, suc, ◌<◌, true, false, List, refl, sym, ◌∙◌, subst, arith, World, all_applied, Suspended, Ran, Pauses, Finished, TooLong, Setting, State, Settles}
+use Rattle.tb_once.proofs.Common.{Ending, Going, Finish, Limit, IsEnd, IsPhaseOf, IsPhase, active_part}
 use Rattle.rand_pcg.specs.Lcg.{Lcg}
-use Rattle.tb_machine.specs.Worlds.{World, all_applied}
-use Rattle.tb_machine.specs.Steps.{Suspended, Ran, Pauses, Finished, TooLong}
-use Rattle.tb_machine.specs.Phases.{Setting, State, Settles, Ending, Going, Finish, Limit, IsEnd, IsPhaseOf, IsPhase, active_part}
 use Rattle.tb_machine.specs.Simulations.{Outcome, outcome, IsSimulation, Reaches}
 
 -- stores of a kind stay so in a phase, and from one of them what settles is determined

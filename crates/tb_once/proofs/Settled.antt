@@ -1,42 +1,21 @@
 -- The values of signals stay within their widths where nets settle.
-use Rattle.std.proofs.Common.{◌≡◌, ℕ, zero, suc, ◌<◌, ◌≤◌, ◌^◌, false, List, [], ◌∷◌, map, length, slice_get, Option, Some, None, ap, sym, subst, ◌∙◌, refl, arith}
-use Rattle.std.specs.Prelude.{slice_index}
-use Rattle.std.specs.List.{All}
-use Rattle.std.proofs.lemmas.Nat.Bits.{bit_at_above}
-use Rattle.netlist_core.specs.declared.bit.Bit.{Bit}
-use Rattle.netlist_core.specs.declared.raw.RawNetlist.{RawNetlist}
-use Rattle.netlist_core.specs.Runs.{bits_at, plain, shown}
-use Rattle.vlog_syntax.specs.declared.stmt.Assignment.{Assignment}
+use Rattle.tb_once.proofs.Common.{◌≡◌, ℕ, zero, suc, ◌<◌, ◌≤◌, ◌^◌, false, List, [], ◌∷◌, map, length, slice_get, Option, Some, None, ap, sym, subst, ◌∙◌, refl, arith, slice_index, All, bit_at_above}
+use Rattle.tb_once.proofs.Common.{Bit, RawNetlist, bits_at, plain, shown, Assignment, Names, IsWithin, Update, some_gives, Fits, Settles, Tree, all_fit, HasSignal, HasSignals, updates_fit, still}
+use Rattle.tb_once.proofs.Common.{assign_updates, assigns_of, whole_updates, IsStore, power_le, Parts, names, widths, setting_of, IsRunnable, FitsDesign, AreValues}
 use Rattle.vlog_meaning.specs.declared.scope.Decl.{Decl}
 use Rattle.vlog_meaning.specs.declared.scope.Decl.TheVariants.{Signal, Constant}
-use Rattle.vlog_meaning.specs.Scopes.{Names, IsWithin}
-use Rattle.tb_machine.specs.declared.update.Update.{Update}
-use Rattle.tb_machine.specs.Worlds.{some_gives, Fits}
-use Rattle.tb_machine.specs.Phases.{Settles}
-use Rattle.tb_machine.specs.Nodes.{Tree}
-use Rattle.tb_assigns.proofs.Fitting.{all_fit}
-use Rattle.tb_evaluator.specs.Meanings.{HasSignal, HasSignals}
-use Rattle.tb_evaluator.proofs.Served.{updates_fit}
 use Rattle.tb_nets.specs.declared.node.NetNode.{NetNode}
 use Rattle.tb_nets.specs.declared.node.NetNode.TheVariants as n
-use Rattle.tb_settling.specs.Settling.{still, assign_updates, assigns_of, whole_updates}
-use Rattle.tb_settling.specs.Nodes.{IsStore}
-use Rattle.tb_machine.proofs.Places.{power_le}
-use Rattle.tb_bench.specs.declared.parts.Parts.{Parts}
-use Rattle.tb_bench.specs.Settings.{names, widths, setting_of}
-use Rattle.tb_bench.specs.Runnable.{IsRunnable, FitsDesign}
-use Rattle.tb_once.specs.Stores.{AreValues}
-use Rattle.tb_once.proofs.Values.{words_some, words_narrow, not_given, none_given, none_past, below_from_bits}
+use Rattle.tb_once.proofs.Values.{not_given, none_given, none_past, below_from_bits}
+use Rattle.std.proofs.lemmas.Option.{none-some}
+use Rattle.tb_settling.proofs.Scenes.{some_widths, most_widths}
 
 abbrev Updating : Type 0
 Updating = ℕ → List ℕ → List Update
 
-none_is_some : {A : Type 0} (x : A) → None ≡ Some x → ⊥
-none_is_some x e = absurd cc
-
 -- the updates among those of assigns are an assign's
 is_assign : (seen : Names) (nodes : List NetNode) (j : ℕ) (f : Updating) → slice_get (assigns_of seen nodes) j ≡ Some f → (a : Assignment) × (Some (assign_updates seen a) ≡ Some f)
-is_assign seen [] j f e = absurd (none_is_some f e)
+is_assign seen [] j f e = absurd (none-some f e)
 is_assign seen (n.Assign a ∷ more) zero f e = (a, e)
 is_assign seen (n.Assign a ∷ more) (suc j) f e = is_assign seen more j f e
 is_assign seen (n.Design ∷ more) j f e = is_assign seen more j f e
@@ -83,10 +62,10 @@ decl_within sizes store None values has = tt
 pub is_store : (b : Parts) → IsRunnable b → (store : List ℕ) → AreValues (widths b) store → IsStore (names b) (widths b) store
 is_store b runs store values = record {
   long = values.long;
-  some = words_some b.starts;
-  most = words_narrow b.starts;
+  some = some_widths b.starts;
+  most = most_widths b.starts;
   within = λ name. decl_within (widths b) store (names b name) values (runs.signals name);
   narrow = λ k.
-      let most : 2 ^ slice_index (widths b) k ≤ 2 ^ 128 = power_le (slice_index (widths b) k) 128 (words_narrow b.starts k) in
+      let most : 2 ^ slice_index (widths b) k ≤ 2 ^ 128 = power_le (slice_index (widths b) k) 128 (most_widths b.starts k) in
       omega (arith, values.within k, most);
 }

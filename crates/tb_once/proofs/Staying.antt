@@ -1,29 +1,11 @@
 -- The values of signals stay within their widths while processes run.
-use Rattle.std.proofs.Common.{◌≡◌, ℕ, ◌<◌, ◌^◌, List, [], map, length, subst, refl}
-use Rattle.std.specs.Prelude.{slice_index}
-use Rattle.std.specs.List.{All}
-use Rattle.std.proofs.lemmas.List.{length-map}
-use Rattle.std.proofs.lemmas.List.Elements.{All-nil, All-append}
-use Rattle.std.proofs.lemmas.Nat.{pow_pos}
-use Rattle.mcy_base.specs.declared.word.Word.{Word}
-use Rattle.netlist_core.specs.declared.raw.RawNetlist.{RawNetlist}
-use Rattle.vlog_syntax.specs.declared.stmt.Assignment.{Assignment}
-use Rattle.vlog_meaning.specs.Scopes.{Names}
+use Rattle.tb_once.proofs.Common.{◌≡◌, ℕ, ◌<◌, ◌^◌, List, [], map, length, subst, refl, slice_index, All, length-map, All-nil, All-append, pow_pos, Word, RawNetlist, Assignment, Names, World}
+use Rattle.tb_once.proofs.Common.{all_applied, Fits, Suspended, Pauses, State, active_part, event_of_phase, Tree, all_fit, meaning, store_in, HasSignals, updates_fit, Parts, names, widths, begun}
+use Rattle.tb_once.proofs.Common.{with_clock, setting_of, IsRunnable, AreValues}
 use Rattle.tb_machine.specs.declared.event.Event.{Event}
 use Rattle.tb_machine.specs.declared.event.Event.TheVariants.{Start, Rise, Fall}
-use Rattle.tb_machine.specs.Worlds.{World, all_applied, Fits}
-use Rattle.tb_machine.specs.Steps.{Suspended, Pauses}
-use Rattle.tb_machine.specs.Phases.{State, active_part, event_of_phase}
-use Rattle.tb_machine.specs.Nodes.{Tree}
 use Rattle.tb_assigns.specs.Updates.{updates}
-use Rattle.tb_assigns.proofs.Fitting.{all_fit}
-use Rattle.tb_evaluator.specs.Meanings.{meaning, store_in, HasSignals}
-use Rattle.tb_evaluator.proofs.Served.{updates_fit}
-use Rattle.tb_bench.specs.declared.parts.Parts.{Parts}
-use Rattle.tb_bench.specs.Settings.{names, widths, begun, with_clock, setting_of}
-use Rattle.tb_bench.specs.Runnable.{IsRunnable}
 use Rattle.tb_process.proofs.Keeping.{Keeps, Left, active_keeps}
-use Rattle.tb_once.specs.Stores.{AreValues}
 use Rattle.tb_once.proofs.Values.{value_set, values_applied}
 
 -- a world with the values of signals of these widths, and updates that fit them

@@ -1,16 +1,7 @@
 -- The stores of a bench's simulation stay within the widths of its signals, and from such a store what settles is determined.
-use Rattle.std.proofs.Common.{refl}
+use Rattle.tb_once.proofs.Common.{refl, bits_at, Tree, Setting, IsNetsOf, PortsFit, Parts, FitsDesign, IsRunnable, names, widths, setting_of, AreValues}
 use Rattle.netlist_core.specs.Checked.{Plan, IsSound}
-use Rattle.netlist_core.specs.Runs.{bits_at}
-use Rattle.tb_machine.specs.Nodes.{Tree}
-use Rattle.tb_machine.specs.Phases.{Setting}
 use Rattle.tb_settling.specs.Laws.{NetsSettleOnce}
-use Rattle.tb_settling.specs.Settling.{IsNetsOf}
-use Rattle.tb_settling.specs.Nodes.{PortsFit}
-use Rattle.tb_bench.specs.declared.parts.Parts.{Parts}
-use Rattle.tb_bench.specs.Runnable.{FitsDesign, IsRunnable}
-use Rattle.tb_bench.specs.Settings.{names, widths, setting_of}
-use Rattle.tb_once.specs.Stores.{AreValues}
 use Rattle.tb_once.proofs.Outcomes.{IsSteady}
 use Rattle.tb_once.proofs.Staying.{active_stays}
 use Rattle.tb_once.proofs.Settled.{settled_values, is_store}

@@ -1,18 +1,10 @@
 -- Values of signals stay within their widths where updates apply.
-use Rattle.std.proofs.Common.{◌≡◌, ℕ, zero, suc, ◌+◌, ◌-◌, ◌*◌, ◌/◌, ◌%◌, ◌<◌, ◌≤◌, ◌^◌, Bool, false, ◌&&◌, ◌||◌, nat_le, nat_lt, List, [], ◌∷◌, map, length, set, refl, ap, sym, ◌∙◌, subst, inl, inr, arith}
-use Rattle.std.specs.Prelude.{slice_index}
-use Rattle.std.specs.List.{All}
+use Rattle.tb_once.proofs.Common.{◌≡◌, ℕ, suc, ◌+◌, ◌-◌, ◌*◌, ◌/◌, ◌%◌, ◌<◌, ◌≤◌, ◌^◌, Bool, false, ◌&&◌, ◌||◌, nat_le, nat_lt, List, [], ◌∷◌, map, length, set, refl, ap, sym, ◌∙◌, subst, inl, inr}
+use Rattle.tb_once.proofs.Common.{arith, slice_index, All, length-set, get_or-set_same, get_or-set_other, All-head, All-tail, pow_pos, shr_split, same_from_bits, bit_at_cat_high, bit_at-zero, Word}
+use Rattle.tb_once.proofs.Common.{Update, replaced, applied, all_applied, gives, some_gives, Fits, all_below, AreValues}
 use Rattle.std.specs.Int.{bit_at}
 use Rattle.std.proofs.lemmas.Bool.Decides.{eqb_tells, nat_tests}
-use Rattle.std.proofs.lemmas.List.{length-set, get_or-set_same, get_or-set_other}
-use Rattle.std.proofs.lemmas.List.Elements.{All-head, All-tail}
-use Rattle.std.proofs.lemmas.Nat.{pow_pos, shr_split}
-use Rattle.std.proofs.lemmas.Nat.Bits.{same_from_bits, bit_at_cat_high, bit_at-zero}
-use Rattle.mcy_base.specs.declared.word.Word.{Word}
-use Rattle.tb_machine.specs.declared.update.Update.{Update}
-use Rattle.tb_machine.specs.Worlds.{replaced, applied, all_applied, gives, some_gives, Fits}
-use Rattle.tb_machine.proofs.Places.{all_below}
-use Rattle.tb_once.specs.Stores.{AreValues}
+use Rattle.tb_settling.proofs.Planning.{fits_at}
 
 -- one value more, below 2 to its width
 pub value_set : (widths store : List ℕ) (k v : ℕ) → k < length widths → v < 2 ^ slice_index widths k → AreValues widths store → AreValues widths (set store k v)
@@ -40,23 +32,8 @@ word_lengths : (ws : List Word) → length (map (λ w. w.bits) ws) ≡ length (m
 word_lengths [] = refl
 word_lengths (x ∷ xs) = ap suc (word_lengths xs)
 
-words_within : (ws : List Word) (k : ℕ) → slice_index (map (λ w. w.bits) ws) k < 2 ^ slice_index (map (λ w. w.width) ws) k
-words_within [] k = pow_pos 0
-words_within (x ∷ xs) zero = x.fits
-words_within (x ∷ xs) (suc k) = words_within xs k
-
 pub values_of_words : (ws : List Word) → AreValues (map (λ w. w.width) ws) (map (λ w. w.bits) ws)
-values_of_words ws = record { long = word_lengths ws; within = words_within ws }
-
-pub words_narrow : (ws : List Word) (k : ℕ) → slice_index (map (λ w. w.width) ws) k ≤ 128
-words_narrow [] k = omega arith
-words_narrow (x ∷ xs) zero = x.narrow
-words_narrow (x ∷ xs) (suc k) = words_narrow xs k
-
-pub words_some : (ws : List Word) (k : ℕ) → k < length (map (λ w. w.width) ws) → 1 ≤ slice_index (map (λ w. w.width) ws) k
-words_some [] k h = absurd (omega (arith, h))
-words_some (x ∷ xs) zero h = x.some
-words_some (x ∷ xs) (suc k) h = words_some xs k (omega (arith, h))
+values_of_words ws = record { long = word_lengths ws; within = fits_at ws }
 
 -- Bits past the width of a signal.
 

@@ -1,24 +1,13 @@
 -- Case statements with a plan take the item that they take without.
-use Rattle.std.proofs.Common.{◌≡◌, ℕ, ◌+◌, Bool, true, false, List, [], ◌∷◌, map, refl, ap, sym, ◌∙◌, Option, Some}
-use Rattle.std.specs.Prelude.{◌||◌, if◌then◌else◌}
-use Rattle.std.specs.List.{AllZip}
-use Rattle.rand_pcg.specs.Lcg.{Lcg}
-use Rattle.vlog_syntax.specs.declared.expr.Expr.{Expr}
+use Rattle.tb_plans.proofs.Common.{◌≡◌, ℕ, ◌+◌, Bool, true, false, List, [], ◌∷◌, map, refl, ap, sym, ◌∙◌, Option, Some, ◌||◌, if◌then◌else◌, AllZip, Lcg, Expr, Shape, Names, Choice, choice_labels}
+use Rattle.tb_plans.proofs.Common.{formula_value, IsLabelOf, IsItemArm, one_agrees, first_arm, selection_taken, LabelFits, ArmFits, IsSelectionOf, IsValueOf}
 use Rattle.vlog_syntax.specs.declared.stmt.CaseKind.{CaseKind}
-use Rattle.vlog_meaning.specs.declared.shapes.Shape.{Shape}
-use Rattle.vlog_meaning.specs.Scopes.{Names}
 use Rattle.vlog_effects.specs.Steps.{dont_care}
-use Rattle.tb_machine.specs.declared.node.Choice.{Choice}
-use Rattle.tb_machine.specs.Nodes.{choice_labels}
 use Rattle.tb_choices.specs.Choices.{Matching, agrees, one_matches, first_match, default_item, or_default, case_size}
 use Rattle.tb_choices.proofs.Matches.{chosen_is}
-use Rattle.tb_formulas.specs.Formulas.{formula_value}
 use Rattle.tb_plans.specs.declared.selection.Arm.{Arm}
 use Rattle.tb_plans.specs.declared.selection.Label.{Label}
 use Rattle.tb_plans.specs.declared.selection.Selection.{Selection}
-use Rattle.tb_plans.specs.Making.{IsLabelOf, IsItemArm}
-use Rattle.tb_plans.specs.Selections.{one_agrees, first_arm, selection_taken, LabelFits, ArmFits, IsSelectionOf}
-use Rattle.tb_plans.specs.Values.{IsValueOf}
 use Rattle.tb_plans.proofs.Zips.{zip_all}
 
 or_match : (b c : Bool) (r : Bool × Lcg) (g : Lcg) → r ≡ (c, g) → (if b then (true, g) else r) ≡ (b || c, g)

@@ -1,23 +1,10 @@
 -- A signal that gets the word of another one.
-use Rattle.std.proofs.Common.{◌≡◌, ℕ, ◌<◌, ◌≤◌, ◌%◌, ◌^◌, List, [], ◌∷◌, map, length, ap, sym, ◌∙◌, subst, arith, Option}
-use Rattle.std.specs.Prelude.{slice_index, IfSome}
-use Rattle.std.proofs.Math.Nat.{mod-eq_of_lt}
-use Rattle.std.proofs.lemmas.List.{length-map}
-use Rattle.std.proofs.lemmas.Option.{IfSome_then}
-use Rattle.mcy_base.specs.declared.word.Word.{Word}
-use Rattle.vlog_meaning.specs.Scopes.{store_of}
-use Rattle.vlog_meaning.proofs.Contexts.{wider}
-use Rattle.tb_machine.specs.declared.update.Update.{Update}
+use Rattle.tb_plans.proofs.Common.{◌≡◌, ℕ, ◌<◌, ◌≤◌, ◌%◌, ◌^◌, List, [], ◌∷◌, map, length, ap, sym, ◌∙◌, subst, arith, Option, slice_index, IfSome, mod-eq_of_lt, length-map, IfSome_then, Word}
+use Rattle.tb_plans.proofs.Common.{store_of, wider, Update, formula_value, opened, valued, Target, Filled, Transfer, target_updates, transfer_updates, TargetFits, TransferFits}
 use Rattle.tb_formulas.specs.declared.formula.Formula.TheOpen as o
 use Rattle.tb_formulas.specs.declared.formula.Formula.TheVariants as v
-use Rattle.tb_formulas.specs.Formulas.{formula_value}
-use Rattle.tb_formulas.proofs.Layers.{opened, valued}
 use Rattle.tb_plans.specs.declared.copy.Copied.{Copied}
-use Rattle.tb_plans.specs.declared.target.Target.{Target}
-use Rattle.tb_plans.specs.declared.target.Target.TheVariants.{Filled}
-use Rattle.tb_plans.specs.declared.transfer.Transfer.{Transfer}
 use Rattle.tb_plans.specs.Copies.{IsWordFor, IsCopied}
-use Rattle.tb_plans.specs.Transfers.{target_updates, transfer_updates, TargetFits, TransferFits}
 use Rattle.tb_plans.proofs.Targets.{filled}
 
 abbrev widths_of : List Word → List ℕ

@@ -1,13 +1,7 @@
 -- Nodes whose expressions and assignments are known, whatever is known of their tasks.
-use Rattle.std.proofs.Common.{ℕ, List}
-use Rattle.std.specs.Prelude.{slice_index_or}
+use Rattle.tb_plans.proofs.Common.{ℕ, List, slice_index_or, Names, IsWhole, Node, IsKnown, AllKnown, CanAssign}
 use Rattle.vlog_syntax.specs.declared.stmt.Argument.{Argument}
-use Rattle.vlog_meaning.specs.Scopes.{Names}
-use Rattle.vlog_meaning.specs.Senses.{IsWhole}
-use Rattle.tb_machine.specs.declared.node.Node.{Node}
 use Rattle.tb_machine.specs.declared.node.Node.TheVariants as n
-use Rattle.tb_machine.specs.Known.{IsKnown, AllKnown}
-use Rattle.tb_assigns.specs.Updates.{CanAssign}
 
 without_task : (names : Names) (performs : List ℕ → List Argument → Type 0) (node : Node) → IsKnown (IsWhole names) (CanAssign names) performs node → IsKnown (IsWhole names) (CanAssign names) (λ name arguments. Unit {0}) node
 without_task names performs (n.SystemTaskEnable name arguments) known = tt

@@ -1,3 +1,4 @@
+mod Common
 pub mod Zips
 pub mod Knowing
 pub mod Values

@@ -1,16 +1,9 @@
 -- Plans of statements and nets, by their numbers.
-use Rattle.std.proofs.Common.{◌≡◌, ℕ, zero, suc, List, [], ◌∷◌, refl, ap, sym, subst, Option, Some}
-use Rattle.std.specs.Prelude.{slice_get}
-use Rattle.std.specs.List.{AllZip}
-use Rattle.vlog_meaning.specs.Scopes.{Names}
-use Rattle.tb_machine.specs.declared.node.Node.{Node}
+use Rattle.tb_plans.proofs.Common.{◌≡◌, ℕ, zero, suc, List, [], ◌∷◌, refl, ap, sym, subst, Option, Some, slice_get, AllZip, Names, Node, Request, IsAnswered, Transfer, IsNodePlan, IsNetPlan}
 use Rattle.tb_machine.specs.declared.node.Node.TheVariants as n
-use Rattle.tb_machine.specs.Known.{Request, IsAnswered}
 use Rattle.tb_nets.specs.declared.node.NetNode.{NetNode}
 use Rattle.tb_nets.specs.declared.node.NetNode.TheVariants as net
 use Rattle.tb_plans.specs.declared.plan.Plan.{Plan}
-use Rattle.tb_plans.specs.declared.transfer.Transfer.{Transfer}
-use Rattle.tb_plans.specs.Making.{IsNodePlan, IsNetPlan}
 use Rattle.tb_plans.specs.Plans.{IsPlanned, or_nothing, plan_at, ArePlans, AreNetPlans}
 use Rattle.tb_plans.proofs.Zips.{zip_long, zip_at}
 

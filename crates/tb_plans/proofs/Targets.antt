@@ -1,33 +1,14 @@
 -- Targets of left sides of one part.
-use Rattle.std.proofs.Common.{◌≡◌, zero, suc, ℕ, ◌<◌, ◌≤◌, ◌/◌, ◌^◌, List, [], ◌∷◌, ◌++◌, ap, sym, ◌∙◌, arith, subst, Option, Some}
-use Rattle.std.specs.Prelude.{ℤ}
-use Rattle.std.proofs.Math.Nat.{mod-eq_of_lt}
-use Rattle.rand_pcg.specs.Lcg.{Lcg}
-use Rattle.vlog_syntax.specs.declared.expr.Expr.{Expr}
-use Rattle.vlog_meaning.specs.declared.shapes.Shape.{Shape}
-use Rattle.vlog_meaning.specs.Integers.{integer}
-use Rattle.vlog_meaning.specs.Scopes.{Names, Store}
-use Rattle.vlog_meaning.specs.Senses.{sense}
-use Rattle.vlog_effects.specs.LeftSides.{Part, Vector, part_vector, select_width}
-use Rattle.tb_machine.specs.declared.update.Update.{Update}
+use Rattle.tb_plans.proofs.Common.{◌≡◌, zero, suc, ℕ, ◌<◌, ◌≤◌, ◌/◌, ◌^◌, List, [], ◌∷◌, ◌++◌, ap, sym, ◌∙◌, arith, subst, Option, Some, ℤ, mod-eq_of_lt, Lcg, Expr, Shape, integer, Names, Store}
+use Rattle.tb_plans.proofs.Common.{sense, Part, Vector, part_vector, select_width, Update, vector_is, window_of, IsDrawn, listed, clip_update, Window, some_bits, window_update, updates_of}
+use Rattle.tb_plans.proofs.Common.{window_drawn, base_drawn, index_drawn, Formula, valued, formula_value, FitsIn, Target, IsTargetOf, target_updates, TargetFits, IsValueOf}
 use Rattle.tb_assigns.specs.declared.clip.Clip.{Clip}
 use Rattle.tb_assigns.specs.declared.piece.Piece.{Piece}
 use Rattle.tb_assigns.specs.declared.piece.Vector as code
-use Rattle.tb_assigns.specs.Pieces.{vector_is, window_of, IsDrawn, listed, clip_update}
-use Rattle.tb_assigns.specs.Updates.{Window, some_bits, window_update, updates_of, window_drawn, base_drawn, index_drawn}
-use Rattle.tb_formulas.specs.declared.formula.Formula.{Formula}
 use Rattle.tb_formulas.specs.declared.formula.Formula.TheOpen as o
 use Rattle.tb_formulas.specs.declared.formula.Formula.TheVariants as v
 use Rattle.tb_formulas.specs.declared.formula.Formula.TheVariants.{Number}
-use Rattle.tb_formulas.proofs.Layers.{valued}
-use Rattle.tb_formulas.specs.Formulas.{formula_value, FitsIn}
-use Rattle.tb_plans.specs.declared.target.Target.{Target}
-use Rattle.tb_plans.specs.Making.{IsTargetOf}
-use Rattle.tb_plans.specs.Transfers.{target_updates, TargetFits}
-use Rattle.tb_plans.specs.Values.{IsValueOf}
-
-whole : (v : ℕ) → v / 2 ^ 0 ≡ v
-whole v = omega arith
+use Rattle.tb_assigns.proofs.Clips.{whole}
 
 pub number_is : (f : Formula) (n : ℕ) (store : Store) → f ≡ Number n → formula_value f store ≡ n
 number_is f n store is = valued (o.Number n) f store (v.rolls-Number n ∙ sym is)

@@ -1,18 +1,8 @@
 -- Formulas of expressions that draw nothing.
-use Rattle.std.proofs.Common.{◌≡◌, ℕ, false, List, ap, sym, Option, Some, None}
-use Rattle.std.specs.Prelude.{not, ◌==◌}
-use Rattle.rand_pcg.specs.Lcg.{Lcg}
-use Rattle.vlog_syntax.specs.declared.expr.Expr.{Expr}
-use Rattle.vlog_meaning.specs.declared.shapes.Shape.{Shape}
-use Rattle.vlog_meaning.specs.Scopes.{Names, Store}
-use Rattle.vlog_meaning.specs.Senses.{sense}
+use Rattle.tb_plans.proofs.Common.{◌≡◌, ℕ, false, List, ap, sym, Option, Some, None, not, ◌==◌, Lcg, Expr, Shape, Names, Store, sense, Formula, formula_value, FitsIn, OfCondition, IsValueOf, OfValue}
 use Rattle.tb_values.specs.Draws.{changes}
 use Rattle.tb_values.proofs.Evaluating.{same_value}
-use Rattle.tb_formulas.specs.declared.formula.Formula.{Formula}
-use Rattle.tb_formulas.specs.Formulas.{formula_value, FitsIn}
 use Rattle.tb_formulas.specs.Signals.{HasSignals}
-use Rattle.tb_plans.specs.Selections.{OfCondition}
-use Rattle.tb_plans.specs.Values.{IsValueOf, OfValue}
 
 pub still_value : (names : Names) (x : Expr) (context : Shape) (f : Formula) → changes x ≡ false → ((store : Store) → formula_value f store ≡ (sense names x).value store context) → ((widths : List ℕ) → HasSignals names widths → FitsIn widths f context.width) → IsValueOf names x context f
 still_value names x context f quiet is fits = record {

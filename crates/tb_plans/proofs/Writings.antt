@@ -1,17 +1,7 @@
 -- Plans of assignments, from those of their sides.
-use Rattle.std.proofs.Common.{◌≡◌, ℕ, List, ap, sym, ◌∙◌}
-use Rattle.rand_pcg.specs.Lcg.{Lcg}
+use Rattle.tb_plans.proofs.Common.{◌≡◌, ℕ, List, ap, sym, ◌∙◌, Lcg, Shape, Names, Store, parts_of, Update, formula_value, Transfer, context_is, parts_written, IsTargetOf, IsTransferOf, IsValueOf}
 use Rattle.vlog_syntax.specs.declared.stmt.Assignment.{Assignment}
-use Rattle.vlog_meaning.specs.declared.shapes.Shape.{Shape}
-use Rattle.vlog_meaning.specs.Scopes.{Names, Store}
-use Rattle.vlog_effects.specs.LeftSides.{parts_of}
-use Rattle.tb_machine.specs.declared.update.Update.{Update}
 use Rattle.tb_values.specs.Values.{evaluated}
-use Rattle.tb_formulas.specs.Formulas.{formula_value}
-use Rattle.tb_plans.specs.declared.transfer.Transfer.{Transfer}
-use Rattle.tb_plans.specs.Making.{context_is, parts_written, IsTargetOf}
-use Rattle.tb_plans.specs.Transfers.{IsTransferOf}
-use Rattle.tb_plans.specs.Values.{IsValueOf}
 
 -- the updates with what the right side comes to
 abbrev with_right : Names → ℕ → Store → Assignment → ℕ × Lcg → List Update × Lcg

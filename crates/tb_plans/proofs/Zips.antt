@@ -1,8 +1,5 @@
 -- Lists whose elements belong together: one pair more, and the pair at a place.
-use Rattle.std.proofs.Common.{◌≡◌, zero, suc, ℕ, ◌+◌, ◌<◌, ◌≤◌, List, [], ◌∷◌, ◌++◌, length, get_or, take, subst, sym, refl, arith, Some, None}
-use Rattle.std.specs.Prelude.{slice_get}
-use Rattle.std.specs.List.{All, AllZip}
-use Rattle.std.proofs.lemmas.List.{take_all}
+use Rattle.tb_plans.proofs.Common.{◌≡◌, zero, suc, ℕ, ◌+◌, ◌<◌, ◌≤◌, List, [], ◌∷◌, ◌++◌, length, get_or, take, subst, sym, refl, arith, Some, slice_get, All, AllZip, take_all, same_Some, none-some}
 use Rattle.std.proofs.lemmas.List.Elements.{All-nil, All-cons}
 
 pub zip_next : {A B : Type 0} (R : A → B → Type 0) (xs : List A) (ys : List B) (k : ℕ) (x : A) (y : B) → x ≡ get_or xs k x → k < length xs → AllZip R (take k xs) ys → R x y → AllZip R (take (suc k) xs) (ys ++ y ∷ [])
@@ -23,16 +20,10 @@ zip_long R [] (y ∷ ys) all = absurd all
 zip_long R (x ∷ xs) [] all = absurd all
 zip_long R (x ∷ xs) (y ∷ ys) all = let e = zip_long R xs ys all.1 in omega (arith, e)
 
-same_some : {A : Type 0} (x y : A) → Some x ≡ Some y → x ≡ y
-same_some x y e = cc
-
-no_some : {A : Type 0} (x : A) → None ≡ Some x → ⊥
-no_some x e = absurd cc
-
 pub zip_at : {A B : Type 0} (R : A → B → Type 0) (xs : List A) (ys : List B) (k : ℕ) (x : A) (y : B) → AllZip R xs ys → slice_get xs k ≡ Some x → slice_get ys k ≡ Some y → R x y
-zip_at R [] ys k x y all here there = absurd (no_some x here)
-zip_at R (a ∷ more) [] k x y all here there = absurd (no_some y there)
-zip_at {A} {B} R (a ∷ more) (b ∷ bs) zero x y all here there = subst (R x) (same_some b y there) (subst (λ (z : A). R z b) (same_some a x here) all.0)
+zip_at R [] ys k x y all here there = absurd (none-some x here)
+zip_at R (a ∷ more) [] k x y all here there = absurd (none-some y there)
+zip_at {A} {B} R (a ∷ more) (b ∷ bs) zero x y all here there = subst (R x) (same_Some b y there) (subst (λ (z : A). R z b) (same_Some a x here) all.0)
 zip_at R (a ∷ more) (b ∷ bs) (suc k) x y all here there = zip_at R more bs k x y all.1 here there
 
 pub zip_end : {A B : Type 0} (R : A → B → Type 0) (xs : List A) (ys : List B) (k : ℕ) → length xs ≤ k → AllZip R (take k xs) ys → AllZip R xs ys

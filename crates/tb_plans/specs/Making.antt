@@ -28,6 +28,8 @@ use Rattle.tb_plans.specs.Plans.{IsPlanned}
 use Rattle.tb_plans.specs.Transfers.{target_updates, TargetFits, OfTransfer}
 use Rattle.tb_plans.specs.Values.{IsValueOf}
 
+-- For proofs alone.
+
 -- the width and sign of an assignment
 abbrev pub context_is : Names → Assignment → Shape
 context_is names a = assigned (sense names a.value) (parts_width names (parts_of a.left))

@@ -42,12 +42,6 @@ TargetFits widths bits (Filled signal low width) = (1 ≤ width) × (bits ≤ wi
 TargetFits widths bits (Fixed clip) = Unit {0}
 TargetFits widths bits (Indexed vector size shape index) = IsSized shape × FitsIn widths index shape.width
 
--- it takes this value
-pub record Takes (widths : List ℕ) (t : Target) (v : ℕ) : Type 0 where
-  pub bits : ℕ
-  pub value : v < 2 ^ bits
-  pub target : TargetFits widths bits t
-
 pub record TransferFits (widths : List ℕ) (t : Transfer) : Type 0 where
   pub bits : ℕ
   pub value : FitsIn widths t.value bits
@@ -76,6 +70,14 @@ IsWritingOf names a (w.Draw d) = IsDrawOf names a d
 abbrev pub OfWriting : Names → Assignment → Option Writing → Type 0
 OfWriting names a None = Unit {0}
 OfWriting names a (Some p) = IsWritingOf names a p
+
+-- For proofs alone.
+
+-- it takes this value
+pub record Takes (widths : List ℕ) (t : Target) (v : ℕ) : Type 0 where
+  pub bits : ℕ
+  pub value : v < 2 ^ bits
+  pub target : TargetFits widths bits t
 
 abbrev pub OfTransfer : Names → Assignment → Option Transfer → Type 0
 OfTransfer names a None = Unit {0}

@@ -17,6 +17,8 @@ use Rattle.tb_formulas.specs.Signals.{HasSignals}
 abbrev pub FormulaFits : List ℕ → Formula → Type 0
 FormulaFits widths f = (n : ℕ) × FitsIn widths f n
 
+-- For proofs alone.
+
 -- each evaluation of the expression at a width and sign has the formula's value, which has no more bits, and leaves the generator
 -- as it is
 pub record IsValueOf (names : Names) (x : Expr) (context : Shape) (f : Formula) : Type 0 where

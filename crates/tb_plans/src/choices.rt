@@ -3,7 +3,7 @@ ghost use Rattle.std.specs.Prelude.{◌≡◌, map, IfOk};
 ghost use Rattle.std.specs.List.{All, AllZip, flat_map};
 ghost use Rattle.vlog_meaning.specs.Scopes.{names_of};
 ghost use Rattle.vlog_meaning.specs.Senses.{sense, IsWhole, IsContext};
-ghost use Rattle.elab_proc.specs.Sizes.{AllWithin};
+ghost use Rattle.vlog_refusals.specs.Cases.{AllWithin};
 ghost use Rattle.tb_machine.specs.Nodes.{choice_labels};
 ghost use Rattle.tb_choices.specs.Choices.{LabelsWhole, case_size};
 ghost use Rattle.tb_plans.specs.Making.{IsItemArm, OfArm, OfArms};
@@ -11,12 +11,12 @@ ghost use Rattle.tb_plans.specs.Selections.{OfChoice};
 
 use crate::selection::{Arm, Label, Selection};
 use crate::value::value_of;
-use elab_proc::dont_care;
 use mcy_base::Items;
 use std::alloc::{AllocError, Global};
 use tb_choices::{case_size, default_item};
 use tb_machine::Choice;
 use vlog_meaning::{Scope, Shape};
+use vlog_refusals::dont_care;
 use vlog_syntax::{CaseKind, Expr};
 
 /// The arm of labels, if they draw nothing.

@@ -1,16 +1,12 @@
 -- What statements ask for is answered, since it is known and their plans are right.
-use Rattle.std.proofs.Common.{◌≡◌, ℕ, List, sym, subst}
-use Rattle.std.proofs.lemmas.List.Elements.{All-get_or}
+use Rattle.tb_process.proofs.Common.{◌≡◌, ℕ, List, sym, subst, All-get_or, Names, Node, CanPerform, CanAnswer}
 use Rattle.std.proofs.lemmas.Option.{slice_get_within, get_or_from_slice_get}
-use Rattle.vlog_meaning.specs.Scopes.{Names}
 use Rattle.vlog_meaning.specs.Senses.{IsWhole}
-use Rattle.tb_machine.specs.declared.node.Node.{Node}
 use Rattle.tb_machine.specs.declared.node.Node.TheVariants as n
 use Rattle.tb_machine.specs.Known.{IsKnown, AllKnown, Request, IsAnswered, AllAnswered}
 use Rattle.tb_assigns.specs.Updates.{CanAssign}
 use Rattle.tb_plans.specs.declared.plan.Plan.{Plan}
 use Rattle.tb_plans.specs.Plans.{IsPlanned, ArePlans, plan_at}
-use Rattle.tb_evaluator.specs.Meanings.{CanPerform, CanAnswer}
 use Rattle.tb_evaluator.proofs.Evaluating.{labels_whole}
 
 abbrev Known : Names → Node → Type 0

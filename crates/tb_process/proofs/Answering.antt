@@ -1,18 +1,7 @@
 -- What the processes of a phase came to, by the answers of those that ran.
-use Rattle.std.proofs.Common.{◌≡◌, ℕ, List, map, Result, IfOk, refl, ap, sym, ◌∙◌, subst}
-use Rattle.std.proofs.lemmas.Result.{IfOk-weaker}
-use Rattle.tb_machine.specs.declared.event.Event.{Event}
-use Rattle.tb_machine.specs.declared.machine.Ended.{Ended}
+use Rattle.tb_process.proofs.Common.{◌≡◌, ℕ, List, map, Result, IfOk, refl, ap, sym, ◌∙◌, subst, IfOk-weaker, Event, Ended, Node, Process, World, Meaning, Suspended, Ran, Pauses, Finished, TooLong}
+use Rattle.tb_process.proofs.Common.{all_woken, active, max_statements, Tree, AreRan, all_suspended, Waiting, begun}
 use Rattle.tb_machine.specs.declared.machine.Ended.TheVariants as e
-use Rattle.tb_machine.specs.declared.node.Node.{Node}
-use Rattle.tb_machine.specs.declared.node.Process.{Process}
-use Rattle.tb_machine.specs.Worlds.{World}
-use Rattle.tb_machine.specs.Steps.{Meaning, Suspended, Ran, Pauses, Finished, TooLong}
-use Rattle.tb_machine.specs.Phases.{all_woken, active, max_statements}
-use Rattle.tb_machine.specs.Nodes.{Tree}
-use Rattle.tb_machine.specs.Machine.{AreRan, all_suspended}
-use Rattle.tb_bench.specs.declared.parts.Waiting.{Waiting}
-use Rattle.tb_bench.specs.Settings.{begun}
 
 pub pauses_is : (nodes : List Node) (tree : Tree) (left : ℕ) (ps : List Process) (v : World) (ran : Ran (List Suspended)) → AreRan nodes tree e.Pauses left ps v ran → ran ≡ Pauses left (all_suspended nodes tree ps) v
 pauses_is nodes tree left ps v (Pauses n qs w) h = rw (h.0, h.1, h.2) refl

@@ -1,23 +1,12 @@
 -- What a phase of a run leads to, over plain variables.
-use Rattle.std.proofs.Common.{◌≡◌, ℕ, zero, suc, ◌+◌, ◌<◌, List, [], ◌++◌, map, refl, ap, sym, ◌∙◌, subst, arith}
+use Rattle.tb_process.proofs.Common.{◌≡◌, ℕ, zero, suc, ◌+◌, ◌<◌, List, [], ◌++◌, map, refl, ap, sym, ◌∙◌, subst, arith, Simulated, Event, Ended, Process, World, all_applied, Suspended, Ran, Pauses}
+use Rattle.tb_process.proofs.Common.{Finished, TooLong, State, Settles, IsEnd, IsPhaseOf, Going, Finish, Limit, active, active_part, after_edge, event_of_phase, Tree, AreRan, all_suspended, meaning}
+use Rattle.tb_process.proofs.Common.{Parts, names, widths, begun, with_clock, setting_of, Running, IsOf, Stands, Follows, next_of, running}
 use Rattle.netlist_core.specs.declared.raw.RawNetlist.{RawNetlist}
-use Rattle.cycle_sim.specs.Simulated.{Simulated}
-use Rattle.tb_machine.specs.declared.event.Event.{Event}
-use Rattle.tb_machine.specs.declared.machine.Ended.{Ended}
 use Rattle.tb_machine.specs.declared.machine.Ended.TheVariants as e
-use Rattle.tb_machine.specs.declared.node.Process.{Process}
 use Rattle.tb_machine.specs.declared.phase_end.PhaseEnd.{PhaseEnd}
 use Rattle.tb_machine.specs.declared.phase_end.PhaseEnd.TheVariants as p
-use Rattle.tb_machine.specs.Worlds.{World, all_applied}
-use Rattle.tb_machine.specs.Steps.{Suspended, Ran, Pauses, Finished, TooLong}
-use Rattle.tb_machine.specs.Phases.{State, Settles, IsEnd, IsPhaseOf, Going, Finish, Limit, active, active_part, after_edge, event_of_phase}
-use Rattle.tb_machine.specs.Nodes.{Tree}
-use Rattle.tb_machine.specs.Machine.{AreRan, all_suspended}
-use Rattle.tb_evaluator.specs.Meanings.{meaning}
-use Rattle.tb_bench.specs.declared.parts.Parts.{Parts}
-use Rattle.tb_bench.specs.Settings.{names, widths, begun, with_clock, setting_of}
 use Rattle.tb_process.proofs.Answering.{pauses_is, finished_is, too_long_is}
-use Rattle.tb_process.specs.Running.{Running, IsOf, Stands, Follows, next_of, running}
 
 -- the world in which the processes of a phase begin
 abbrev start_world : Parts → State → World

@@ -1,7 +1,8 @@
 -- What evaluations keep of a world, processes keep.
-use Rattle.std.proofs.Common.{◌≡◌, ℕ, zero, suc, Bool, true, false, List, [], ◌∷◌, map, Option, None, Some, codes, Result, IfOk, if◌then◌else◌, refl}
+use Rattle.tb_process.proofs.Common.{◌≡◌, ℕ, zero, suc, Bool, true, false, List, [], ◌∷◌, map, Option, None, Some, codes, Result, IfOk, if◌then◌else◌, refl, IfOk-weaker, Names, Event, Ended, Node}
+use Rattle.tb_process.proofs.Common.{Process, World, scheduled, Meaning, Work, Do, Again, Loop, Turns, Step, Goes, Waits, Finishes, assign, assign_due, labels_of, execute, step, Suspended, Ran}
+use Rattle.tb_process.proofs.Common.{Pauses, Finished, TooLong, goes_on, waits_for, woken, before, all_woken, active, max_statements, Tree, AreRan, meaning}
 use Rattle.std.specs.Str.{bytes_eq}
-use Rattle.std.proofs.lemmas.Result.{IfOk-weaker}
 use Rattle.vlog_syntax.specs.declared.expr.Expr.{Expr}
 use Rattle.vlog_syntax.specs.declared.stmt.Argument.{Argument}
 use Rattle.vlog_syntax.specs.declared.stmt.Assignment.{Assignment}
@@ -10,18 +11,7 @@ use Rattle.vlog_syntax.specs.declared.stmt.CaseItem.{CaseItem}
 use Rattle.vlog_syntax.specs.declared.stmt.Stmt.{Stmt, out-Stmt}
 use Rattle.vlog_syntax.specs.declared.stmt.Stmt.TheOpen as s
 use Rattle.vlog_syntax.specs.declared.stmt.Stmt.TheOpen.{Stmt-F}
-use Rattle.vlog_meaning.specs.Scopes.{Names}
-use Rattle.tb_machine.specs.declared.event.Event.{Event}
-use Rattle.tb_machine.specs.declared.machine.Ended.{Ended}
 use Rattle.tb_machine.specs.declared.machine.Ended.TheVariants as e
-use Rattle.tb_machine.specs.declared.node.Node.{Node}
-use Rattle.tb_machine.specs.declared.node.Process.{Process}
-use Rattle.tb_machine.specs.Worlds.{World, scheduled}
-use Rattle.tb_machine.specs.Steps.{Meaning, Work, Do, Again, Loop, Turns, Step, Goes, Waits, Finishes, assign, assign_due, labels_of, execute, step, Suspended, Ran, Pauses, Finished, TooLong, goes_on}
-use Rattle.tb_machine.specs.Phases.{waits_for, woken, before, all_woken, active, max_statements}
-use Rattle.tb_machine.specs.Nodes.{Tree}
-use Rattle.tb_machine.specs.Machine.{AreRan}
-use Rattle.tb_evaluator.specs.Meanings.{meaning}
 
 -- a fact on worlds that evaluations keep
 pub record Keeps (m : Meaning) (P : World → Type 0) : Type 0 where

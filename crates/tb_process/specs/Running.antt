@@ -26,10 +26,6 @@ pub record Running : Type 0 where
   pub initial : List Process
   pub is_refused : Bool
 
--- a run of which no phase was refused
-abbrev pub running : ℕ → Simulated → World → List Process → Running
-running phase sim scene initial = record { phase = phase; sim = sim; scene = scene; initial = initial; is_refused = false }
-
 -- the generator of `$random` that a seed begins
 abbrev pub generator : ℕ → Lcg
 generator seed = pcg32_of_seed (pcg32_seed 16 seed)
@@ -64,3 +60,9 @@ pub record Follows (b : Parts) (tree : Tree) (netlist : RawNetlist) (s : State) 
   pub phase : IsPhase (setting_of b tree netlist) s (ending_of end) t
   pub text : t.text ≡ s.text ++ r.scene.text
   pub stands : end ≡ Going → Stands b tree r t
+
+-- For proofs alone.
+
+-- a run of which no phase was refused
+abbrev pub running : ℕ → Simulated → World → List Process → Running
+running phase sim scene initial = record { phase = phase; sim = sim; scene = scene; initial = initial; is_refused = false }

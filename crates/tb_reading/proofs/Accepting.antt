@@ -1,40 +1,22 @@
 -- What a reading of a testbench holds where it is not refused: items without a fault, the design and a generator among them, and
 -- hidden signals as wide as the ports of the design.
-use Rattle.std.proofs.Common.{◌≡◌, suc, ℕ, ◌+◌, Bool, true, false, ◌||◌, List, [], ◌∷◌, ◌++◌, map, length, refl, sym, ap, ◌∙◌, subst, if◌then◌else◌, arith}
+use Rattle.tb_reading.proofs.Common.{◌≡◌, suc, ℕ, ◌+◌, Bool, true, false, ◌||◌, List, [], ◌∷◌, ◌++◌, map, length, refl, sym, ap, ◌∙◌, subst, if◌then◌else◌, arith, append_assoc, append-nil, Identifier}
+use Rattle.tb_reading.proofs.Common.{Process, Module, Assignment, Port, RawNetlist, bits_at, Names, names_of, Placing, Step, Signal, BenchFault, Design, Generator, BenchItem, helper, generates}
+use Rattle.tb_reading.proofs.Common.{delay_items, process_item, held, is_strange, listed, step_items, items_of, step_instance, or_later, held_instance, first_region, numbers_from, port_widths}
+use Rattle.tb_reading.proofs.Common.{is_design, is_generator, some_item, AreFaultless, IsFirstIn, Reading, signal_widths, input_numbers, output_numbers, instance_widths, IsRead, context_in}
+use Rattle.tb_reading.proofs.Common.{region_fault, answer, IsReason}
 use Rattle.std.specs.Prelude.{Option, None, Some}
-use Rattle.std.proofs.lemmas.List.{append_assoc, append-nil}
-use Rattle.vlog_syntax.specs.declared.identifier.Identifier.{Identifier}
 use Rattle.vlog_syntax.specs.declared.item.Delay.{Delay}
 use Rattle.vlog_syntax.specs.declared.item.Item.{Item, out-Item}
 use Rattle.vlog_syntax.specs.declared.item.Item.TheOpen as t
 use Rattle.vlog_syntax.specs.declared.item.Item.TheOpen.{Item-F}
 use Rattle.vlog_syntax.specs.declared.item.PlainItem.{PlainItem}
 use Rattle.vlog_syntax.specs.declared.item.PlainItem.TheVariants as p
-use Rattle.vlog_syntax.specs.declared.item.Process.{Process}
-use Rattle.vlog_syntax.specs.declared.module.Module.{Module}
-use Rattle.vlog_syntax.specs.declared.stmt.Assignment.{Assignment}
-use Rattle.netlist_core.specs.declared.port.Port.{Port}
-use Rattle.netlist_core.specs.declared.raw.RawNetlist.{RawNetlist}
-use Rattle.netlist_core.specs.Runs.{bits_at}
-use Rattle.vlog_meaning.specs.Scopes.{Names, names_of}
-use Rattle.flat_scopes.specs.declared.opening.Placing.{Placing}
-use Rattle.flat_scopes.specs.declared.opening.Step.{Step}
 use Rattle.flat_scopes.specs.declared.opening.Step.TheVariants as s
-use Rattle.flat_scopes.specs.declared.signal.Signal.{Signal}
-use Rattle.tb_faults.specs.declared.fault.BenchFault.{BenchFault}
-use Rattle.tb_faults.specs.Order.{earlier}
-use Rattle.tb_items.specs.declared.design.Design.{Design}
-use Rattle.tb_items.specs.declared.generator.Generator.{Generator}
-use Rattle.tb_items.specs.declared.item.BenchItem.{BenchItem}
+use Rattle.tb_faults.proofs.Firsts.{none_earlier}
 use Rattle.tb_items.specs.declared.item.BenchItem.TheVariants as b
-use Rattle.tb_items.specs.Items.{helper, generates, delay_items, process_item, held, is_strange, listed, step_items, items_of, step_instance, or_later, held_instance, first_region}
 use Rattle.tb_items.specs.Generators.{generator_of}
-use Rattle.tb_contents.specs.Hidden.{numbers_from, port_widths}
 use Rattle.tb_settling.specs.Nodes.{PortsFit}
-use Rattle.tb_refusals.specs.Refusals.{is_design, is_generator, some_item, AreFaultless, IsFirstIn}
-use Rattle.tb_reading.specs.declared.reading.Reading.{Reading}
-use Rattle.tb_reading.specs.Readings.{signal_widths, input_numbers, output_numbers, instance_widths, IsRead}
-use Rattle.tb_reading.specs.Reasons.{context_in, region_fault, answer, IsReason}
 use Rattle.tb_reading.proofs.Fitting.{Fit, ports_fit}
 
 -- The design among items.
@@ -113,16 +95,10 @@ answered None false clock e = absurd cc
 answered None true false e = absurd cc
 answered None true true e = (refl, refl, refl)
 
-none_found : (f g : Option BenchFault) → None ≡ earlier f g → f ≡ None
-unfolding earlier
-none_found None g e = refl
-none_found (Some f) None e = absurd cc
-none_found (Some f) (Some g) e = absurd cc
-
 pub accepted : (m : Module) (r : Reading) → IsReason m r None → AreFaultless (context_in r) r.items.items (length r.items.items) × (some_item is_design r.items.items ≡ true) × (some_item is_generator r.items.items ≡ true)
 accepted m r reason =
     let three = answered reason.fault (some_item is_design r.items.items) (some_item is_generator r.items.items) reason.told in
-    let none : reason.is_fault.found ≡ None = none_found reason.is_fault.found (region_fault (first_region m.items)) (sym three.0 ∙ reason.is_fault.told) in
+    let none : reason.is_fault.found ≡ None = none_earlier reason.is_fault.found (region_fault (first_region m.items)) (sym three.0 ∙ reason.is_fault.told) in
     (subst (IsFirstIn (context_in r) r.items.items) none reason.is_fault.first, three.1, three.2)
 
 -- Hidden signals.

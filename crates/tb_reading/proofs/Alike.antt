@@ -1,28 +1,13 @@
 -- Benches of one module have one setting and one start.
-use Rattle.std.proofs.Common.{◌≡◌, ℕ, List, [], ◌∷◌, map, slice_index, slice_set, Option, None, Some, refl, sym, ap, ◌∙◌, subst}
-use Rattle.netlist_core.specs.Runs.{bits_at}
+use Rattle.tb_reading.proofs.Common.{◌≡◌, ℕ, List, [], ◌∷◌, map, slice_set, Option, None, Some, refl, sym, ap, ◌∙◌, subst, bits_at, Names, names_of, Event, Tree, tree_of, waiting, meaning, assigns_of}
+use Rattle.tb_reading.proofs.Common.{values_at, whole_updates, Generator, BenchItem, nodes_of, Clock, Parts, Waiting, begun, names, widths, with_clock, Reading, HasParts, IsClockOf, begun_as}
+use Rattle.tb_reading.proofs.Common.{first_generator, high_bits, Begun, processes, AreAlike, BenchesAreAlike}
+use Rattle.std.proofs.Common.{slice_index}
 use Rattle.cycle_sim.specs.Simulated.{starts_of}
 use Rattle.vlog_syntax.specs.declared.item.ProcessKind.TheVariants as kind
-use Rattle.vlog_meaning.specs.Scopes.{Names, names_of}
-use Rattle.tb_machine.specs.declared.event.Event.{Event}
 use Rattle.tb_machine.specs.declared.event.Event.TheVariants.{Start, Rise, Fall}
-use Rattle.tb_machine.specs.Nodes.{Tree, tree_of}
 use Rattle.tb_machine.specs.Phases.{event_of_phase}
 use Rattle.tb_machine.specs.Steps.{Suspended}
-use Rattle.tb_code.specs.Codes.{waiting}
-use Rattle.tb_evaluator.specs.Meanings.{meaning}
-use Rattle.tb_settling.specs.Settling.{assigns_of, values_at, whole_updates}
-use Rattle.tb_items.specs.declared.generator.Generator.{Generator}
-use Rattle.tb_items.specs.declared.item.BenchItem.{BenchItem}
-use Rattle.tb_contents.specs.Nets.{nodes_of}
-use Rattle.tb_bench.specs.declared.parts.Clock.{Clock}
-use Rattle.tb_bench.specs.declared.parts.Parts.{Parts}
-use Rattle.tb_bench.specs.declared.parts.Waiting.{Waiting}
-use Rattle.tb_bench.specs.Settings.{begun, names, widths, with_clock}
-use Rattle.tb_reading.specs.declared.reading.Reading.{Reading}
-use Rattle.tb_reading.specs.Benches.{HasParts, IsClockOf, begun_as, first_generator, high_bits}
-use Rattle.tb_reading.specs.Processes.{Begun, processes}
-use Rattle.tb_reading.specs.Laws.{AreAlike, BenchesAreAlike}
 use Rattle.tb_reading.proofs.Readings.{ReadAlike, read_once}
 
 -- the clock of a generator is one

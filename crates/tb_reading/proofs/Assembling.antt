@@ -1,45 +1,17 @@
 -- The parts of a bench, as they are assembled, can run and are those of what was read.
-use Rattle.std.proofs.Common.{◌≡◌, ℕ, ◌<◌, true, List, [], ◌++◌, map, length, slice_get, Option, None, Some, sym, ap, ◌∙◌, subst}
-use Rattle.std.specs.Prelude.{slice_index}
-use Rattle.std.specs.List.{All}
-use Rattle.std.proofs.lemmas.List.{length-map}
-use Rattle.std.proofs.lemmas.List.Elements.{All-append}
+use Rattle.tb_reading.proofs.Common.{◌≡◌, ℕ, ◌<◌, true, List, [], ◌++◌, map, length, slice_get, Option, None, Some, sym, ap, ◌∙◌, subst, slice_index, All, length-map, All-append, Assignment, Stmt}
+use Rattle.tb_reading.proofs.Common.{Decl, Names, names_of, Node, ArePlans, AreNetPlans, NetNode, Nets, Adds, Passes, adds_both, bench_tests, known, CanPerform, HasSignal, HasSignals, Generator}
+use Rattle.tb_reading.proofs.Common.{nodes_of, CanSettle, AreFaultless, Clock, Parts, Waiting, names, widths, IsRunnable, Reading, Begun, bodies, events, processes, AddsWaiting, context_in}
+use Rattle.tb_reading.proofs.Common.{first_generator, IsClockOf, HasParts}
 use Rattle.vlog_syntax.specs.declared.item.ProcessKind.TheVariants as k
-use Rattle.vlog_syntax.specs.declared.stmt.Assignment.{Assignment}
-use Rattle.vlog_syntax.specs.declared.stmt.Stmt.{Stmt}
-use Rattle.vlog_meaning.specs.declared.scope.Decl.{Decl}
-use Rattle.vlog_meaning.specs.Scopes.{Names, names_of}
 use Rattle.vlog_meaning.specs.Senses.{IsWhole}
-use Rattle.tb_machine.specs.declared.node.Node.{Node}
 use Rattle.tb_machine.specs.Known.{AllKnown}
 use Rattle.tb_assigns.specs.Checks.{can_assign}
 use Rattle.tb_assigns.specs.Updates.{CanAssign}
 use Rattle.tb_plans.specs.declared.plan.Plan.{Plan}
 use Rattle.tb_plans.specs.declared.transfer.Transfer.{Transfer}
-use Rattle.tb_plans.specs.Plans.{ArePlans, AreNetPlans}
 use Rattle.tb_plans.proofs.Knowing.{without_tasks}
-use Rattle.tb_nets.specs.declared.node.NetNode.{NetNode}
 use Rattle.tb_nets.specs.declared.node.NetNode.TheVariants.{Assign}
-use Rattle.tb_nets.specs.declared.nets.Nets.{Nets}
-use Rattle.tb_code.specs.Codes.{Adds}
-use Rattle.tb_code.specs.Tests.{Passes}
-use Rattle.tb_code.proofs.Adding.{adds_both}
-use Rattle.tb_known.specs.Laws.{bench_tests}
-use Rattle.tb_known.proofs.Known.{known}
-use Rattle.tb_evaluator.specs.Meanings.{CanPerform, HasSignal, HasSignals}
-use Rattle.tb_items.specs.declared.generator.Generator.{Generator}
-use Rattle.tb_contents.specs.Nets.{nodes_of}
-use Rattle.tb_settling.specs.Settling.{CanSettle}
-use Rattle.tb_refusals.specs.Refusals.{AreFaultless}
-use Rattle.tb_bench.specs.declared.parts.Clock.{Clock}
-use Rattle.tb_bench.specs.declared.parts.Parts.{Parts}
-use Rattle.tb_bench.specs.declared.parts.Waiting.{Waiting}
-use Rattle.tb_bench.specs.Settings.{names, widths}
-use Rattle.tb_bench.specs.Runnable.{IsRunnable}
-use Rattle.tb_reading.specs.declared.reading.Reading.{Reading}
-use Rattle.tb_reading.specs.Processes.{Begun, bodies, events, processes, AddsWaiting}
-use Rattle.tb_reading.specs.Reasons.{context_in}
-use Rattle.tb_reading.specs.Benches.{first_generator, IsClockOf, HasParts}
 use Rattle.tb_reading.proofs.Runnable.{runnable}
 use Rattle.tb_reading.proofs.Passing.{processes_pass}
 use Rattle.tb_reading.proofs.Holding.{processes_hold}

@@ -1,34 +1,21 @@
 -- What a design gives to a testbench is the same, whichever opening of its top it holds.
-use Rattle.std.proofs.Common.{◌≡◌, ℕ, ◌+◌, Bool, not, ◌||◌, List, [], ◌∷◌, ◌++◌, length, Option, None, Some, refl, sym, ap, ◌∙◌, if◌then◌else◌}
+use Rattle.tb_reading.proofs.Common.{◌≡◌, ℕ, ◌+◌, Bool, not, ◌||◌, List, [], ◌∷◌, ◌++◌, length, Option, None, Some, refl, sym, ap, ◌∙◌, if◌then◌else◌, Port, RawNetlist, Identifier, Module, Names}
+use Rattle.tb_reading.proofs.Common.{with_name, Placing, Step, Opened, unopened, opened_of, Design, has_values, held, held_instance, helper, is_strange, items_of, or_later, step_instance, step_items}
+use Rattle.tb_reading.proofs.Common.{IsOpened, hidden_decl, IsDesign, hidden_names}
 use Rattle.std.specs.List.{flat_map}
 use Rattle.std.specs.Str.{bytes_eq}
-use Rattle.netlist_core.specs.declared.port.Port.{Port}
-use Rattle.netlist_core.specs.declared.raw.RawNetlist.{RawNetlist}
-use Rattle.vlog_syntax.specs.declared.identifier.Identifier.{Identifier}
 use Rattle.vlog_syntax.specs.declared.item.ParameterValues.{ParameterValues}
-use Rattle.vlog_syntax.specs.declared.module.Module.{Module}
-use Rattle.vlog_meaning.specs.Scopes.{Names, with_name}
-use Rattle.flat_scopes.specs.declared.opening.Placing.{Placing}
-use Rattle.flat_scopes.specs.declared.opening.Step.{Step}
 use Rattle.flat_scopes.specs.declared.opening.Step.TheVariants as s
-use Rattle.flat_scopes.specs.Openings.{Opened, unopened}
-use Rattle.flat_scopes.specs.Views.{opened_of}
 use Rattle.flat_scopes.specs.declared.wire.Wire.{Wire}
 use Rattle.flat_scopes.specs.declared.wire.Wire.TheVariants.{To, Mismatch}
 use Rattle.flat_instances.specs.Instances.{no_names}
 use Rattle.flat_scopes.specs.Wires.{wires_of}
 use Rattle.flat_items.specs.Replacing.{top_head}
 use Rattle.flat_once.proofs.Scopes.{module_once}
-use Rattle.tb_items.specs.declared.design.Design.{Design}
 use Rattle.tb_items.specs.declared.design.Role.TheVariants.{Clock}
 use Rattle.tb_items.specs.declared.item.BenchItem.TheVariants as b
 use Rattle.tb_items.specs.Connections.{clock_missing, connections, taken, hidden, role_items, wire_items}
 use Rattle.tb_items.specs.Designs.{hidden_name, is_clock, named_port, port_role, port_sign, role_of, sign_at}
-use Rattle.tb_items.specs.Items.{has_values, held, held_instance, helper, is_strange, items_of, or_later, step_instance, step_items}
-use Rattle.tb_signals.specs.Opened.{IsOpened}
-use Rattle.tb_signals.specs.Tables.{hidden_decl}
-use Rattle.tb_contents.specs.Designs.{IsDesign}
-use Rattle.tb_contents.specs.Hidden.{hidden_names}
 
 pub record AreSame (d e : Design) : Type 0 where
   pub name : d.name ≡ e.name

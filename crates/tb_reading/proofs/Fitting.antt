@@ -1,13 +1,6 @@
 -- Hidden signals of ports behind others: each is as wide as its port, and is among the signals.
-use Rattle.std.proofs.Common.{◌≡◌, ℕ, ◌+◌, ◌<◌, List, [], ◌∷◌, ◌++◌, map, length, refl, sym, ap, ◌∙◌, subst, arith}
-use Rattle.std.specs.Prelude.{slice_index}
-use Rattle.std.specs.List.{All}
-use Rattle.std.proofs.lemmas.List.{append_assoc, append-nil}
-use Rattle.std.proofs.lemmas.List.Elements.{All-nil, All-cons}
-use Rattle.netlist_core.specs.declared.port.Port.{Port}
-use Rattle.netlist_core.specs.Runs.{bits_at}
-use Rattle.tb_contents.specs.Hidden.{numbers_from, port_widths}
-use Rattle.tb_settling.specs.Nodes.{PortsFit}
+use Rattle.tb_reading.proofs.Common.{◌≡◌, ℕ, ◌+◌, ◌<◌, List, [], ◌∷◌, ◌++◌, map, length, refl, sym, ap, ◌∙◌, subst, arith, slice_index, All, append_assoc, All-nil, All-cons, Port, bits_at}
+use Rattle.tb_reading.proofs.Common.{numbers_from, port_widths}
 
 abbrev pub Fit : List ℕ → ℕ → List Port → Type 0
 Fit widths n ports = (map (slice_index widths) (numbers_from n ports) ≡ map length (bits_at ports)) × All (λ k. k < length widths) (numbers_from n ports)
@@ -37,15 +30,3 @@ ports_fit n before (p ∷ ps) more e =
     (ap (slice_index widths) (sym e) ∙ first_at before rest w)
     (subst (λ (k : ℕ). k < length widths) e (first_inside before rest w))
     (subst (λ (ws : List ℕ). Fit ws (n + 1) ps) (append_assoc before (w ∷ []) rest) (ports_fit (n + 1) (before ++ w ∷ []) ps more (longer before w n e)))
-
--- the signals of the inputs, where those of the outputs stand behind them
-pub inputs_fit : (before : List ℕ) (inputs outputs : List Port) → PortsFit ((before ++ port_widths inputs) ++ port_widths outputs) (numbers_from (length before) inputs) (bits_at inputs)
-inputs_fit before inputs outputs =
-    let fit : Fit ((before ++ port_widths inputs) ++ port_widths outputs) (length before) inputs = subst (λ (ws : List ℕ). Fit ws (length before) inputs) (sym (append_assoc before (port_widths inputs) (port_widths outputs))) (ports_fit (length before) before inputs (port_widths outputs) refl) in
-    record { widths_are = fit.0; known = fit.1 }
-
--- those at the end
-pub outputs_fit : (before : List ℕ) (ports : List Port) → PortsFit (before ++ port_widths ports) (numbers_from (length before) ports) (bits_at ports)
-outputs_fit before ports =
-    let fit : Fit (before ++ port_widths ports) (length before) ports = subst (λ (ws : List ℕ). Fit (before ++ ws) (length before) ports) (append-nil (port_widths ports)) (ports_fit (length before) before ports [] refl) in
-    record { widths_are = fit.0; known = fit.1 }

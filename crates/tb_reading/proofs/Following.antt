@@ -1,19 +1,6 @@
 -- What was read, step by step.
-use Rattle.std.proofs.Common.{◌≡◌, ℕ, List, ◌++◌, length, Option, sym, ap, ◌∙◌}
-use Rattle.std.proofs.lemmas.List.{length-map}
-use Rattle.vlog_syntax.specs.declared.identifier.Identifier.{Identifier}
-use Rattle.vlog_syntax.specs.declared.module.Module.{Module}
-use Rattle.netlist_core.specs.declared.raw.RawNetlist.{RawNetlist}
-use Rattle.vlog_meaning.specs.Scopes.{Names, names_of}
-use Rattle.flat_scopes.specs.Openings.{Opened}
-use Rattle.tb_items.specs.declared.design.Design.{Design}
-use Rattle.tb_items.specs.Items.{clock_of, held_instance, items_of}
-use Rattle.tb_signals.specs.Opened.{IsOpened}
-use Rattle.tb_signals.specs.Tables.{Table}
-use Rattle.tb_contents.specs.Designs.{IsDesign}
-use Rattle.tb_contents.specs.Starts.{started}
-use Rattle.tb_reading.specs.declared.reading.Reading.{Reading}
-use Rattle.tb_reading.specs.Readings.{instance_names, input_numbers, output_numbers, instance_widths, instance_values, signal_widths, zeros, IsRead}
+use Rattle.tb_reading.proofs.Common.{◌≡◌, ℕ, List, ◌++◌, length, Option, sym, ap, ◌∙◌, length-map, Identifier, Module, RawNetlist, Names, names_of, Opened, Design, clock_of, held_instance, items_of}
+use Rattle.tb_reading.proofs.Common.{IsOpened, Table, IsDesign, started, Reading, instance_names, input_numbers, output_numbers, instance_widths, instance_values, signal_widths, zeros, IsRead}
 
 -- the table of the module's signals, then with hidden ones, then with start values
 pub record Steps (netlist : RawNetlist) (o : Opened) (d : Design) (instance : Option Identifier) (fresh hidden : Table) (r : Reading) : Type 0 where

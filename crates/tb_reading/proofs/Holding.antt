@@ -1,14 +1,6 @@
 -- The processes of a bench are those of the source, by the statements of which its code is.
-use Rattle.std.proofs.Common.{◌≡◌, ℕ, List, [], ◌∷◌, ◌++◌, map, refl, ap, ◌∙◌}
-use Rattle.vlog_syntax.specs.declared.stmt.Stmt.{Stmt}
-use Rattle.tb_machine.specs.declared.event.Event.{Event}
-use Rattle.tb_machine.specs.declared.node.Node.{Node}
-use Rattle.tb_machine.specs.Nodes.{Tree, IsCode, tree_of}
-use Rattle.tb_code.specs.Codes.{Adds, Holds}
-use Rattle.tb_code.proofs.Adding.{code_of}
-use Rattle.tb_bench.specs.declared.parts.Waiting.{Waiting}
-use Rattle.tb_reading.specs.Processes.{Begun, begun, bodies, events}
-use Rattle.tb_reading.specs.Benches.{begun_as}
+use Rattle.tb_reading.proofs.Common.{◌≡◌, ℕ, List, [], ◌∷◌, ◌++◌, map, refl, ap, ◌∙◌, Stmt, Event, Node, Tree, IsCode, tree_of, Adds, Holds, code_of, Waiting, Begun, bodies, events, begun_as}
+use Rattle.tb_reading.specs.Processes.{begun}
 
 abbrev numbers_in : List Waiting → List ℕ
 numbers_in ws = map (λ w. w.body) ws

@@ -1,17 +1,8 @@
 -- Items with something among them, and ports whose bits are so many.
-use Rattle.std.proofs.Common.{Some, refl, ◌≡◌, ℕ, ◌+◌, ◌<◌, ◌≤◌, Bool, true, false, ◌||◌, List, [], ◌∷◌, length, drop, get_or, sym, ap, ◌∙◌}
-use Rattle.std.specs.List.{All}
-use Rattle.std.proofs.lemmas.List.{drop_more, drop_all}
-use Rattle.std.proofs.lemmas.List.Elements.{All-nil, All-cons}
-use Rattle.netlist_core.specs.declared.port.Port.{Port}
+use Rattle.tb_reading.proofs.Common.{Some, refl, ◌≡◌, ℕ, ◌+◌, ◌<◌, ◌≤◌, Bool, true, false, ◌||◌, List, [], ◌∷◌, length, drop, get_or, sym, ap, ◌∙◌, All, drop_more, drop_all, All-nil, All-cons, Port}
+use Rattle.tb_reading.proofs.Common.{bits_at, Span, Generator, BenchItem, first_generator, some_item}
 use Rattle.netlist_core.specs.Checked.{AllWide}
-use Rattle.netlist_core.specs.Runs.{bits_at}
-use Rattle.mcy_base.specs.declared.span.Span.{Span}
-use Rattle.tb_items.specs.declared.generator.Generator.{Generator}
-use Rattle.tb_items.specs.declared.item.BenchItem.{BenchItem}
 use Rattle.tb_items.specs.declared.item.BenchItem.TheVariants as b
-use Rattle.tb_reading.specs.Benches.{first_generator}
-use Rattle.tb_refusals.specs.Refusals.{some_item}
 
 opened_up : (p : BenchItem → Bool) (items : List BenchItem) (i : ℕ) (item : BenchItem) → i < length items → item ≡ get_or items i item → some_item p (drop i items) ≡ (p item || some_item p (drop (i + 1) items))
 opened_up p items i item h is = ap (some_item p) (drop_more items i item h ∙ ap (λ x. x ∷ drop (i + 1) items) (sym is))

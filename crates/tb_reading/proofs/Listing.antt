@@ -1,36 +1,12 @@
 -- Processes that are added to code one after the other.
-use Rattle.std.proofs.Common.{◌≡◌, ℕ, ◌+◌, ◌<◌, List, [], ◌∷◌, ◌++◌, map, length, take, get_or, flat_map, refl, sym, ap, ◌∙◌}
-use Rattle.std.proofs.lemmas.List.{append_assoc, append-nil, map-append, take_more}
+use Rattle.tb_reading.proofs.Common.{◌≡◌, ℕ, ◌+◌, ◌<◌, List, [], ◌∷◌, ◌++◌, map, length, take, get_or, flat_map, refl, sym, ap, ◌∙◌, append_assoc, append-nil, map-append, take_more, Process}
+use Rattle.tb_reading.proofs.Common.{ProcessKind, BenchItem, Node, adds_none, adds_both, Waiting, Begun, item_processes, bodies, events, AddsWaiting}
 use Rattle.std.proofs.lemmas.Grind.{flat_map-append}
-use Rattle.mcy_base.specs.declared.span.Span.{Span}
-use Rattle.vlog_syntax.specs.declared.item.Process.{Process}
-use Rattle.vlog_syntax.specs.declared.item.ProcessKind.{ProcessKind}
-use Rattle.tb_items.specs.declared.item.BenchItem.{BenchItem}
 use Rattle.tb_items.specs.declared.item.BenchItem.TheVariants as b
-use Rattle.vlog_syntax.specs.declared.stmt.EventControl.{EventControl}
-use Rattle.vlog_syntax.specs.declared.stmt.Stmt.{Stmt, out-Stmt, out-roll-Stmt}
-use Rattle.vlog_syntax.specs.declared.stmt.Stmt.TheOpen as s
-use Rattle.vlog_syntax.specs.declared.stmt.Stmt.TheVariants as t
-use Rattle.tb_machine.specs.declared.node.Node.{Node}
-use Rattle.tb_machine.specs.Steps.{event_of}
-use Rattle.tb_code.specs.Codes.{Adds}
-use Rattle.tb_code.proofs.Adding.{adds_none, adds_both}
-use Rattle.tb_bench.specs.declared.parts.Waiting.{Waiting}
-use Rattle.tb_reading.specs.Processes.{Begun, begun, always_layer, item_processes, bodies, events, AddsWaiting}
-
--- what an `always` with a list begins with
-pub always_with_list : (x inner : Stmt) (at : Span) (control : EventControl) → x ≡ t.EventControl at control inner → always_layer x (out-Stmt x) ≡ begun (event_of control) inner
-always_with_list x inner at control is =
-    let layer : out-Stmt x ≡ s.EventControl at control inner = ap out-Stmt (is ∙ sym (t.rolls-EventControl at control inner)) ∙ out-roll-Stmt (s.EventControl at control inner) in
-    ap (always_layer x) layer
 
 -- nothing is added
 pub none_waits : (nodes : List Node) (list : List Waiting) → AddsWaiting nodes nodes list list []
 none_waits nodes list = record { added = []; list = sym (append-nil list); adds = adds_none nodes; events = refl }
-
--- one process is
-pub one_waits : (before after : List Node) (old new : List Waiting) (w : Waiting) (p : Begun) → new ≡ old ++ w ∷ [] → Adds before after (w.body ∷ []) (p.body ∷ []) → w.event ≡ p.event → AddsWaiting before after old new (p ∷ [])
-one_waits before after old new w p list adds event = record { added = w ∷ []; list = list; adds = adds; events = ap (λ e. e ∷ []) event }
 
 -- some, and then others
 pub both_wait : (a b c : List Node) (x y z : List Waiting) (ps qs : List Begun) → AddsWaiting a b x y ps → AddsWaiting b c y z qs → AddsWaiting a c x z (ps ++ qs)

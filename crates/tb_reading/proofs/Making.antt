@@ -1,27 +1,9 @@
 -- What comes of a testbench, from what was read of it.
-use Rattle.std.proofs.Common.{◌≡◌, ℕ, List, None, map, refl, sym, ap, ◌∙◌, subst, inl}
-use Rattle.std.specs.Prelude.{slice_index}
-use Rattle.mcy_base.specs.declared.span.Span.{Span}
-use Rattle.vlog_syntax.specs.declared.feature.Feature.TheVariants.{Helper}
-use Rattle.vlog_syntax.specs.declared.module.Module.{Module}
-use Rattle.netlist_core.specs.declared.raw.RawNetlist.{RawNetlist}
-use Rattle.vlog_meaning.specs.declared.scope.Decl.{Decl}
-use Rattle.vlog_meaning.specs.Scopes.{names_of}
-use Rattle.tb_faults.specs.declared.error.BenchError.{BenchError}
+use Rattle.tb_reading.proofs.Common.{◌≡◌, ℕ, List, None, map, refl, sym, ap, ◌∙◌, subst, inl, slice_index, Span, Helper, Module, RawNetlist, Decl, names_of, BenchError, BenchItem, CanSettle, Nets}
+use Rattle.tb_reading.proofs.Common.{IsFaultless, IsWired, Parts, widths, FitsDesign, Reading, IsRead, context_in, IsReason, HasParts, IsBenchOf, IsOnALoop, IsRefused, IsRefusal}
 use Rattle.tb_faults.specs.declared.error.BenchError.TheVariants as e
-use Rattle.tb_items.specs.declared.item.BenchItem.{BenchItem}
-use Rattle.tb_settling.specs.Settling.{CanSettle}
-use Rattle.tb_nets.specs.declared.nets.Nets.{Nets}
 use Rattle.tb_wired.specs.declared.wired.Wired.{Wired}
 use Rattle.tb_wired.specs.declared.wired.Wired.TheVariants as w
-use Rattle.tb_wired.specs.Wired.{IsFaultless, IsWired}
-use Rattle.tb_bench.specs.declared.parts.Parts.{Parts}
-use Rattle.tb_bench.specs.Settings.{widths}
-use Rattle.tb_bench.specs.Runnable.{FitsDesign}
-use Rattle.tb_reading.specs.declared.reading.Reading.{Reading}
-use Rattle.tb_reading.specs.Readings.{IsRead}
-use Rattle.tb_reading.specs.Reasons.{context_in, IsReason}
-use Rattle.tb_reading.specs.Benches.{HasParts, IsBenchOf, IsOnALoop, IsRefused, IsRefusal}
 use Rattle.tb_reading.proofs.Accepting.{accepted, hidden_fit}
 
 -- a reason is a refusal

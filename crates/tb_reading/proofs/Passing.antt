@@ -1,23 +1,14 @@
 -- The processes of items without a fault pass the tests of the evaluators.
-use Rattle.std.proofs.Common.{◌≡◌, List, [], length, ◌∷◌, refl, sym, subst}
-use Rattle.std.specs.List.{All}
-use Rattle.std.proofs.lemmas.List.{map-append}
-use Rattle.std.proofs.lemmas.List.Elements.{All-nil, All-cons, All-head, All-tail, All-append}
-use Rattle.vlog_syntax.specs.declared.item.ProcessKind.{ProcessKind}
+use Rattle.tb_reading.proofs.Common.{◌≡◌, List, [], length, ◌∷◌, refl, sym, subst, All, map-append, All-nil, All-cons, All-head, All-tail, All-append, ProcessKind, Stmt, out-Stmt, Passes, bench_tests}
+use Rattle.tb_reading.proofs.Common.{BenchItem, Context, AreFaultless, processes, bodies, item_processes, of_kind, always_layer}
 use Rattle.vlog_syntax.specs.declared.item.ProcessKind.TheVariants as k
 use Rattle.vlog_syntax.specs.declared.stmt.CaseItem.{CaseItem}
-use Rattle.vlog_syntax.specs.declared.stmt.Stmt.{Stmt, out-Stmt}
 use Rattle.vlog_syntax.specs.declared.stmt.Stmt.TheOpen as s
 use Rattle.vlog_syntax.specs.declared.stmt.Stmt.TheOpen.{Stmt-F}
-use Rattle.tb_code.specs.Tests.{Passes}
-use Rattle.tb_known.specs.Laws.{bench_tests}
 use Rattle.tb_known.proofs.Processes.{faultless, waits}
-use Rattle.tb_items.specs.declared.item.BenchItem.{BenchItem}
 use Rattle.tb_items.specs.declared.item.BenchItem.TheVariants as b
-use Rattle.tb_refusals.specs.Refusals.{Context, AreFaultless}
 use Rattle.tb_apart.specs.Laws.{IsCleanItem}
 use Rattle.tb_apart.proofs.Clean.{items_clean}
-use Rattle.tb_reading.specs.Processes.{processes, bodies, item_processes, of_kind, always_layer}
 
 module _ (c : Context) (wanted : ProcessKind) where
   abbrev P : Stmt → Type 0

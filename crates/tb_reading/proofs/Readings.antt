@@ -1,16 +1,6 @@
 -- What is read of a module is one, but for how its names are kept.
-use Rattle.std.proofs.Common.{◌≡◌, ℕ, ◌+◌, ◌++◌, length, Option, None, Some, refl, sym, ap, ◌∙◌}
-use Rattle.netlist_core.specs.declared.raw.RawNetlist.{RawNetlist}
-use Rattle.vlog_syntax.specs.declared.identifier.Identifier.{Identifier}
-use Rattle.vlog_syntax.specs.declared.module.Module.{Module}
-use Rattle.vlog_meaning.specs.Scopes.{Names, names_of}
-use Rattle.flat_scopes.specs.Openings.{Opened}
-use Rattle.tb_items.specs.declared.design.Design.{Design}
-use Rattle.tb_items.specs.Items.{clock_of, held_instance, items_of}
-use Rattle.tb_contents.specs.Hidden.{hidden_names}
-use Rattle.tb_contents.specs.Starts.{started}
-use Rattle.tb_reading.specs.declared.reading.Reading.{Reading}
-use Rattle.tb_reading.specs.Readings.{IsRead, input_numbers, instance_names, instance_values, instance_widths, output_numbers, signal_widths, zeros}
+use Rattle.tb_reading.proofs.Common.{◌≡◌, ℕ, ◌+◌, ◌++◌, length, Option, None, Some, refl, sym, ap, ◌∙◌, RawNetlist, Identifier, Module, Names, names_of, Opened, Design, clock_of, held_instance}
+use Rattle.tb_reading.proofs.Common.{items_of, hidden_names, started, Reading, IsRead, input_numbers, instance_names, instance_values, instance_widths, output_numbers, signal_widths, zeros}
 use Rattle.tb_reading.proofs.Designs.{AreSame, designs_once, held_instance_same, hidden_same, items_same, opened_once}
 
 pub record ReadAlike (r s : Reading) : Type 0 where

@@ -1,31 +1,13 @@
 -- A module has one reason to be refused, and a bench has none.
-use Rattle.std.proofs.Common.{◌≡◌, ◌≢◌, ◌⊎◌, inl, inr, ℕ, ◌<◌, ◌≤◌, List, Option, None, Some, slice_get, refl, sym, ap, ◌∙◌, subst, arith}
+use Rattle.tb_reading.proofs.Common.{◌≡◌, ◌≢◌, ◌⊎◌, inl, inr, ℕ, ◌<◌, ◌≤◌, List, Option, None, Some, slice_get, refl, sym, ap, ◌∙◌, subst, arith, Span, RawNetlist, Helper, Module, Names, names_of}
+use Rattle.tb_reading.proofs.Common.{BenchError, BenchFault, BenchItem, first_region, Context, IsFirstIn, is_design, is_free, is_generator, some_item, nodes_of, NetNode, places_of, Parts, IsRunnable}
+use Rattle.tb_reading.proofs.Common.{Reading, IsBenchOf, IsLoop, IsOnALoop, IsRefusal, IsRefused, IsRead, IsFault, IsReason, answer, context_in, region_fault, NoneRefused, OneRefusal}
 use Rattle.std.proofs.lemmas.Bool.{cases_lt}
-use Rattle.mcy_base.specs.declared.span.Span.{Span}
-use Rattle.netlist_core.specs.declared.raw.RawNetlist.{RawNetlist}
-use Rattle.vlog_syntax.specs.declared.feature.Feature.TheVariants.{Helper}
-use Rattle.vlog_syntax.specs.declared.module.Module.{Module}
-use Rattle.vlog_meaning.specs.Scopes.{Names, names_of}
 use Rattle.net_order.specs.Orders.{IsFirst, IsOnLoop}
-use Rattle.tb_faults.specs.declared.error.BenchError.{BenchError}
 use Rattle.tb_faults.specs.declared.error.BenchError.TheVariants as e
-use Rattle.tb_faults.specs.declared.fault.BenchFault.{BenchFault}
 use Rattle.tb_faults.specs.Order.{earlier}
-use Rattle.tb_items.specs.declared.item.BenchItem.{BenchItem}
-use Rattle.tb_items.specs.Items.{first_region}
-use Rattle.tb_refusals.specs.Refusals.{Context, IsFirstIn, is_design, is_free, is_generator, some_item}
 use Rattle.tb_refusals.proofs.Firsts.{first_once_in}
-use Rattle.tb_contents.specs.Nets.{nodes_of}
-use Rattle.tb_nets.specs.declared.node.NetNode.{NetNode}
 use Rattle.tb_nets.specs.Nets.{ReadsNode, wiring}
-use Rattle.tb_wired.specs.Wired.{places_of}
-use Rattle.tb_bench.specs.declared.parts.Parts.{Parts}
-use Rattle.tb_bench.specs.Runnable.{IsRunnable}
-use Rattle.tb_reading.specs.declared.reading.Reading.{Reading}
-use Rattle.tb_reading.specs.Benches.{IsBenchOf, IsLoop, IsOnALoop, IsRefusal, IsRefused}
-use Rattle.tb_reading.specs.Readings.{IsRead}
-use Rattle.tb_reading.specs.Reasons.{IsFault, IsReason, answer, context_in, region_fault}
-use Rattle.tb_reading.specs.Laws.{NoneRefused, OneRefusal}
 use Rattle.tb_reading.proofs.Readings.{ReadAlike, read_once}
 
 fault_once : (m : Module) (r s : Reading) (f g : Option BenchFault) → ReadAlike r s → IsFault m r f → IsFault m s g → f ≡ g

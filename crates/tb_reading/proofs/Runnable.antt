@@ -1,22 +1,6 @@
 -- A bench whose parts can run, from the code of its processes.
-use Rattle.std.proofs.Common.{◌≡◌, ℕ, ◌<◌, List, [], ◌∷◌, ◌++◌, map, length, subst, sym}
-use Rattle.std.specs.List.{All}
-use Rattle.std.specs.Prelude.{slice_index}
-use Rattle.std.proofs.lemmas.List.{append-nil}
-use Rattle.std.proofs.lemmas.List.Elements.{All-nil, All-cons, All-head, All-tail}
-use Rattle.vlog_syntax.specs.declared.stmt.Stmt.{Stmt}
-use Rattle.tb_code.specs.Codes.{Adds, Holds}
-use Rattle.tb_code.specs.Tests.{Passes}
-use Rattle.tb_code.proofs.Adding.{code_of}
-use Rattle.tb_known.specs.Laws.{bench_tests}
-use Rattle.tb_known.proofs.Known.{known}
-use Rattle.tb_evaluator.specs.Meanings.{HasSignals}
-use Rattle.tb_plans.specs.Plans.{ArePlans, AreNetPlans}
-use Rattle.tb_settling.specs.Settling.{CanSettle}
-use Rattle.tb_bench.specs.declared.parts.Waiting.{Waiting}
-use Rattle.tb_bench.specs.declared.parts.Parts.{Parts}
-use Rattle.tb_bench.specs.Settings.{names, widths}
-use Rattle.tb_bench.specs.Runnable.{IsBelow, IsRunnable}
+use Rattle.tb_reading.proofs.Common.{◌≡◌, ℕ, ◌<◌, List, [], ◌∷◌, ◌++◌, map, length, subst, sym, All, slice_index, append-nil, All-nil, All-cons, All-head, All-tail, Stmt, Adds, Holds, Passes, code_of}
+use Rattle.tb_reading.proofs.Common.{bench_tests, known, HasSignals, ArePlans, AreNetPlans, CanSettle, Waiting, Parts, names, widths, IsBelow, IsRunnable}
 
 -- processes whose statements' numbers are below a limit, and the numbers behind them
 split_below : (limit : ℕ) (ws : List Waiting) (rest : List ℕ) → All (λ k. k < limit) (map (λ w. w.body) ws ++ rest) → All (IsBelow limit) ws × All (λ k. k < limit) rest

@@ -95,6 +95,8 @@ abbrev pub IsRefusal : Module → Module → RawNetlist → BenchError → Type 
 IsRefusal m top netlist e.Memory = Unit {0}
 IsRefusal m top netlist error = IsRefused m top netlist error ⊎ IsOnALoop m top netlist error
 
+-- For proofs alone.
+
 -- what comes of a testbench
 abbrev pub IsMade : Module → Module → RawNetlist → Made → Type 0
 IsMade m top netlist (d.Bench p) = IsBenchOf m top netlist p × FitsDesign p netlist

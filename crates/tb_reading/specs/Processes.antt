@@ -43,6 +43,8 @@ item_processes wanted other = []
 abbrev pub processes : ProcessKind → List BenchItem → List Begun
 processes wanted = flat_map (item_processes wanted)
 
+-- For proofs alone.
+
 abbrev pub bodies : List Begun → List Stmt
 bodies = map (λ x. x.body)
 

@@ -1,12 +1,10 @@
 -- Items without a fault, one more, and the first that has one.
-use Rattle.std.proofs.Common.{◌≡◌, ℕ, zero, suc, ◌<◌, Bool, true, false, nat_eq, nat_lt, List, [], ◌∷◌, ◌++◌, take, length, get_or, refl, sym, ap, ◌∙◌, subst, arith}
+use Rattle.tb_refusals.proofs.Common.{◌≡◌, ℕ, zero, suc, ◌<◌, Bool, true, false, nat_eq, nat_lt, List, [], ◌∷◌, ◌++◌, take, length, get_or, refl, sym, ap, ◌∙◌, subst, arith, BenchFault, IsFirst}
+use Rattle.tb_refusals.proofs.Common.{BenchItem, Context, item_faults, AreFaultless, IsRefused, OneFirst}
 use Rattle.std.proofs.lemmas.Bool.Decides.{nat_tests}
 use Rattle.std.specs.Prelude.{Option, Some, None, slice_get}
-use Rattle.tb_faults.specs.declared.fault.BenchFault.{BenchFault}
-use Rattle.tb_faults.specs.Order.{IsFirst}
 use Rattle.tb_faults.proofs.Order.{first_once}
-use Rattle.tb_items.specs.declared.item.BenchItem.{BenchItem}
-use Rattle.tb_refusals.specs.Refusals.{Context, item_faults, AreFaultless, IsRefused, IsFirstIn, OneFirst}
+use Rattle.std.proofs.lemmas.Option.{same_Some}
 
 pub take_more : (xs : List BenchItem) (k : ℕ) (x : BenchItem) → x ≡ get_or xs k x → k < length xs → take (suc k) xs ≡ take k xs ++ x ∷ []
 take_more [] k x is h = absurd (omega arith)
@@ -17,9 +15,6 @@ at_place : (xs : List BenchItem) (k : ℕ) (x : BenchItem) → x ≡ get_or xs k
 at_place [] k x is h = absurd (omega arith)
 at_place (y ∷ ys) zero x is h = ap (λ (z : BenchItem). Some z) (sym is)
 at_place (y ∷ ys) (suc k) x is h = at_place ys k x is (omega arith)
-
-some_same : {A : Type 0} (a b : A) → Some a ≡ Some b → a ≡ b
-some_same a b e = cc
 
 pub none_at_first : (c : Context) (items : List BenchItem) → AreFaultless c items 0
 none_at_first c items k x h at = absurd (omega arith)
@@ -33,12 +28,9 @@ faultless_more c items n x f is h before first none k y below at = go (nat_eq k 
     go : (b : Bool) → nat_eq k n ≡ b → item_faults c (take k items) y ≡ []
     go true e =
         let same : k ≡ n = grind (arith, nat_tests) in
-        let here : y ≡ x = some_same y x (sym at ∙ ap (λ (m : ℕ). slice_get items m) same ∙ at_place items n x is h) in
+        let here : y ≡ x = same_Some y x (sym at ∙ ap (λ (m : ℕ). slice_get items m) same ∙ at_place items n x is h) in
         ap (λ (m : ℕ). item_faults c (take m items) y) same ∙ ap (item_faults c (take n items)) here ∙ no_faults
     go false e = before k y (grind (arith, nat_tests)) at
-
-pub refused_here : (c : Context) (items : List BenchItem) (n : ℕ) (x : BenchItem) (f : Option BenchFault) (fault : BenchFault) → x ≡ get_or items n x → n < length items → AreFaultless c items n → IsFirst (item_faults c (take n items) x) f → f ≡ Some fault → IsFirstIn c items (Some fault)
-refused_here c items n x f fault is h before first some = record { place = n; item = x; there = at_place items n x is h; before = before; first = subst (IsFirst (item_faults c (take n items) x)) some first }
 
 -- There is one first fault, or none.
 
@@ -56,7 +48,7 @@ not_behind c items fault n r none h = has_fault (item_faults c (take r.place ite
 
 same_place : (c : Context) (items : List BenchItem) (f g : BenchFault) (a : IsRefused c items f) (b : IsRefused c items g) → a.place ≡ b.place → Some f ≡ Some g
 same_place c items f g a b e =
-    let item : a.item ≡ b.item = some_same a.item b.item (sym a.there ∙ ap (λ (k : ℕ). slice_get items k) e ∙ b.there) in
+    let item : a.item ≡ b.item = same_Some a.item b.item (sym a.there ∙ ap (λ (k : ℕ). slice_get items k) e ∙ b.there) in
     let faults : item_faults c (take b.place items) b.item ≡ item_faults c (take a.place items) a.item = sym (ap (λ (k : ℕ). item_faults c (take k items) a.item) e ∙ ap (item_faults c (take b.place items)) item) in
     first_once (item_faults c (take a.place items) a.item) (Some f) (Some g) a.first (subst (λ (fs : List BenchFault). IsFirst fs (Some g)) faults b.first)
 

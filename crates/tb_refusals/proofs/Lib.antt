@@ -1,2 +1,3 @@
+mod Common
 pub mod Notes
 pub mod Firsts

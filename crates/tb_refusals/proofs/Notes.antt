@@ -1,26 +1,18 @@
 -- What was noted of items, one more.
-use Rattle.std.proofs.Common.{◌≡◌, Bool, true, false, ◌||◌, List, [], ◌∷◌, ◌++◌, refl, sym, ap, ◌∙◌}
-use Rattle.vlog_meaning.specs.Scopes.{Names}
-use Rattle.tb_items.specs.declared.item.BenchItem.{BenchItem}
-use Rattle.tb_writers.specs.Views.{written_of}
-use Rattle.tb_writers.specs.Writers.{Written, nothing, with_outputs, with_item, with_items}
+use Rattle.tb_refusals.proofs.Common.{◌≡◌, Bool, true, false, ◌||◌, List, [], ◌∷◌, ◌++◌, refl, sym, ap, ◌∙◌, Names, BenchItem, written_of, Written, nothing, with_outputs, with_item, with_items}
+use Rattle.tb_refusals.proofs.Common.{Context, is_generator, is_design, is_start, some_item, HasSeen}
 use Rattle.tb_refusals.specs.declared.seen.Seen.{Seen}
-use Rattle.tb_refusals.specs.Refusals.{Context, is_generator, is_design, is_start, some_item}
-use Rattle.tb_refusals.specs.Views.{HasSeen}
+use Rattle.flat_scopes.proofs.Labels.{or_more}
 
 off : (a : Bool) → (a || false) ≡ a
 off true = refl
 off false = refl
 
-apart : (a b c : Bool) → (a || (b || c)) ≡ ((a || b) || c)
-apart true b c = refl
-apart false b c = refl
-
 some_more : (p : BenchItem → Bool) (xs : List BenchItem) (y : BenchItem) → some_item p (xs ++ y ∷ []) ≡ (some_item p xs || p y)
 some_more p [] y = off (p y)
-some_more p (x ∷ xs) y = ap (λ (b : Bool). p x || b) (some_more p xs y) ∙ apart (p x) (some_item p xs) (p y)
+some_more p (x ∷ xs) y = ap (λ (b : Bool). p x || b) (some_more p xs y) ∙ or_more (p x) (some_item p xs) (p y)
 
-written_more : (names : Names) (w : Written) (xs : List BenchItem) (y : BenchItem) → with_items names w (xs ++ y ∷ []) ≡ with_item names (with_items names w xs) y
+pub written_more : (names : Names) (w : Written) (xs : List BenchItem) (y : BenchItem) → with_items names w (xs ++ y ∷ []) ≡ with_item names (with_items names w xs) y
 written_more names w [] y = refl
 written_more names w (x ∷ xs) y = written_more names (with_item names w x) xs y
 

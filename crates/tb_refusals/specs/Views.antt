@@ -10,6 +10,8 @@ use Rattle.tb_refusals.specs.Refusals.{Context, is_generator, is_design, is_star
 abbrev pub context_of : code.Context → Context
 context_of c = record { names = names_of c.scope.now; signals = c.signals.now; clock = option_copied c.clock; is_free = c.is_free; outputs = c.outputs.now }
 
+-- For proofs alone.
+
 -- what was noted of these items
 pub record HasSeen (c : Context) (before : List BenchItem) (s : Seen) : Type 0 where
   pub generator : s.has_generator ≡ some_item is_generator before

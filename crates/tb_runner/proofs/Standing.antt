@@ -1,21 +1,13 @@
 -- What a phase of a run comes to, as a phase of its setting.
-use Rattle.std.proofs.Common.{◌≡◌, ℕ, ◌++◌, ◌<◌, Bool, true, false, List, [], Option, None, Some, is_some, MatchOption, Result, Ok, Err, IfOk, refl, sym, ap, ◌∙◌, subst, arith}
-use Rattle.vlog_syntax.specs.declared.stmt.Stmt.{Stmt}
+use Rattle.tb_runner.proofs.Common.{◌≡◌, ℕ, ◌++◌, ◌<◌, Bool, true, false, List, [], Option, None, Some, is_some, MatchOption, Result, Ok, Err, IfOk, refl, sym, ap, ◌∙◌, subst, arith, Stmt, Plan}
+use Rattle.tb_runner.proofs.Common.{IsCode, tree_of, phases_of, Running, IsOf, CanGoOn, Stands, Follows, IsAt, IsOpen, Watched, HasWatched, Simulated, setting, start, StandsIn, GoesOn, IsJob}
 use Rattle.netlist_core.specs.declared.raw.RawNetlist.{RawNetlist}
-use Rattle.netlist_core.specs.Checked.{Plan}
 use Rattle.tb_machine.specs.declared.phase_end.PhaseEnd.{PhaseEnd}
 use Rattle.tb_machine.specs.declared.phase_end.PhaseEnd.TheVariants as e
-use Rattle.tb_machine.specs.Nodes.{IsCode, tree_of}
 use Rattle.tb_machine.specs.Phases.{Setting, State, IsPhase, ending_of}
-use Rattle.tb_machine.specs.Simulations.{phases_of}
 use Rattle.tb_bench.specs.declared.parts.Parts.{Parts}
 use Rattle.tb_bench.specs.Settings.{setting_of}
-use Rattle.tb_process.specs.Running.{Running, IsOf, CanGoOn, Stands, Follows}
 use Rattle.tb_turns.specs.Ends.{IfGoing}
-use Rattle.tb_turns.specs.Reached.{IsAt, IsOpen}
-use Rattle.tb_watch.specs.Searches.{Watched, HasWatched}
-use Rattle.tb_runner.specs.Simulated.{Simulated, setting, start, StandsIn, GoesOn}
-use Rattle.tb_runner.specs.Jobs.{IsJob}
 
 still_stands : (b : Parts) (r new : Running) (g : Setting) (trees : List Stmt) (s t : State) (end : PhaseEnd) → IsCode b.code trees → g ≡ setting_of b (tree_of trees) r.sim.plan.raw → new.sim.plan ≡ r.sim.plan → Follows b (tree_of trees) r.sim.plan.raw s end new t → IfGoing end (StandsIn b new g t)
 still_stands b r new g trees s t e.Going code same design follows = (trees, code, rw design same, follows.stands refl)

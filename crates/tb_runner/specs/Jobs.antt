@@ -29,6 +29,8 @@ pub record IsSameJob (old new : Job) : Type 0 where
   pub pass : new.pass ≡ old.pass
   pub fail : new.fail ≡ old.fail
 
+-- For proofs alone.
+
 -- what holds of a job that goes on
 pub record IsJob (x : Simulated) (limit : ℕ) (run : Running) (phases : ℕ) (watch : Watched) : Type 0 where
   pub open_still : IsOpen (CanGoOn x.bench run) run.phase phases limit

@@ -41,6 +41,8 @@ Ends x limit phases = (trees : List Stmt) → IsCode x.bench.code trees → Meet
 abbrev pub Says : Simulated → (limit : ℕ) → (pass fail : List ℕ) → SimVerdict → Type 0
 Says x limit pass fail verdict = (trees : List Stmt) → IsCode x.bench.code trees → IsVerdict (setting x trees) (start x trees) limit pass fail verdict
 
+-- For proofs alone.
+
 -- the run stands at this state, in the setting that statements of the code give
 abbrev pub StandsIn : Parts → Running → Setting → State → Type 0
 StandsIn b r g s = (trees : List Stmt) × IsCode b.code trees × (g ≡ setting_of b (tree_of trees) r.sim.plan.raw) × Stands b (tree_of trees) r s

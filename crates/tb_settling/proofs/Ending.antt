@@ -1,18 +1,7 @@
 -- Where all nodes have settled, the setting has.
-use Rattle.std.proofs.Common.{◌≡◌, zero, suc, ℕ, ◌<◌, ◌≤◌, false, List, [], ◌∷◌, length, take, slice_get, Option, Some, None, refl, sym, ap, ◌∙◌, subst, arith}
-use Rattle.std.specs.List.{Contains}
-use Rattle.std.proofs.lemmas.List.{take_all}
-use Rattle.netlist_core.specs.Runs.{bits_at, plain, shown, taken, Nets as Values}
-use Rattle.vlog_syntax.specs.declared.stmt.Assignment.{Assignment}
-use Rattle.vlog_meaning.specs.Scopes.{Names}
-use Rattle.tb_machine.specs.declared.update.Update.{Update}
-use Rattle.tb_machine.specs.Worlds.{some_gives}
-use Rattle.tb_machine.specs.Phases.{Setting, Hold, Settles}
-use Rattle.tb_nets.specs.declared.node.NetNode.{NetNode}
-use Rattle.tb_nets.specs.declared.node.NetNode.TheVariants.{Assign, Design}
-use Rattle.tb_nets.specs.declared.nets.Nets.{Nets}
-use Rattle.tb_settling.specs.Settling.{assign_updates, assigns_of, whole_updates, CanSettle, IsNetsOf}
-use Rattle.tb_settling.specs.Nodes.{Situation, node_updates, HasSettled, HaveSettled}
+use Rattle.tb_settling.proofs.Common.{◌≡◌, zero, suc, ℕ, ◌<◌, ◌≤◌, false, List, [], ◌∷◌, length, take, slice_get, Option, Some, None, refl, sym, ap, ◌∙◌, subst, arith, Contains, take_all, bits_at}
+use Rattle.tb_settling.proofs.Common.{plain, shown, taken, Values, Assignment, Names, Update, some_gives, Setting, Hold, Settles, NetNode, Assign, Design, Nets, assign_updates, assigns_of}
+use Rattle.tb_settling.proofs.Common.{whole_updates, CanSettle, IsNetsOf, Situation, node_updates, HasSettled, HaveSettled}
 
 -- the assign of each of the updates, and the updates of each assign
 

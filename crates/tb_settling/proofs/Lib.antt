@@ -1,8 +1,8 @@
+mod Common
 pub mod Replacing
 pub mod Stores
 pub mod Reading
 pub mod Sides
-pub mod Placing
 pub mod Windows
 pub mod Passing
 pub mod Ending

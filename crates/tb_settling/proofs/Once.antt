@@ -1,24 +1,10 @@
 -- What nets settle to is determined.
-use Rattle.std.proofs.Common.{◌≡◌, zero, suc, ℕ, ◌+◌, ◌<◌, ◌≤◌, true, false, List, [], ◌∷◌, length, take, slice_get, Some, refl, sym, ap, ◌∙◌, subst, ◌⊎◌, inl, inr, arith}
-use Rattle.std.specs.Prelude.{slice_index}
-use Rattle.std.specs.List.{Contains}
-use Rattle.std.proofs.lemmas.List.{take_all}
-use Rattle.netlist_core.specs.Runs.{bits_at, plain, shown, taken, Nets as Values, Holds as IsCycle}
+use Rattle.tb_settling.proofs.Common.{◌≡◌, zero, suc, ℕ, ◌+◌, ◌<◌, ◌≤◌, true, false, List, [], ◌∷◌, length, take, slice_get, Some, refl, sym, ap, ◌∙◌, subst, ◌⊎◌, inl, inr, arith, slice_index}
+use Rattle.tb_settling.proofs.Common.{Contains, take_all, bits_at, plain, shown, taken, Values, IsCycle, plain-causal, IsReady, Update, some_gives, Setting, Settles, HasSignals, NetNode, Assign}
+use Rattle.tb_settling.proofs.Common.{Design, Nets, NetsSettleOnce, assign_updates, values_at, whole_updates, CanSettle, IsNetsOf, Situation, PortsFit, node_updates, HasSettled, IsStore, cases_Bool}
 use Rattle.netlist_core.specs.Solutions.{OneAnswerBySight}
-use Rattle.netlist_core.proofs.Settles.{plain-causal}
-use Rattle.net_order.specs.Orders.{IsReady}
-use Rattle.tb_machine.specs.declared.update.Update.{Update}
-use Rattle.tb_machine.specs.Worlds.{some_gives}
-use Rattle.tb_machine.specs.Phases.{Setting, Settles}
-use Rattle.tb_evaluator.specs.Meanings.{HasSignals}
-use Rattle.tb_nets.specs.declared.node.NetNode.{NetNode}
-use Rattle.tb_nets.specs.declared.node.NetNode.TheVariants.{Assign, Design}
-use Rattle.tb_nets.specs.declared.nets.Nets.{Nets}
 use Rattle.tb_nets.specs.Nets.{Wiring, wiring, node_reads, node_writes, ReadsNode}
-use Rattle.tb_settling.specs.Laws.{NetsSettleOnce}
-use Rattle.tb_settling.specs.Settling.{assign_updates, values_at, whole_updates, CanSettle, IsNetsOf}
-use Rattle.tb_settling.specs.Nodes.{Situation, PortsFit, node_updates, HasSettled, IsStore}
-use Rattle.tb_settling.proofs.Stores.{store_bit, all_left, tells, hold_bit, same_store}
+use Rattle.tb_settling.proofs.Stores.{store_bit, all_left, hold_bit, same_store}
 use Rattle.tb_settling.proofs.Passing.{node_fits, gives_writes, updates_same, inputs_same, take_cases, reads_at, writes_at}
 use Rattle.tb_settling.proofs.Ending.{IsAssignOf, assign_of, assign_among, inside_of}
 
@@ -29,7 +15,7 @@ first_none w x xs n i free none (suc d) node at = none d node at
 
 find_writer : (w : Wiring) (nodes : List NetNode) (n i : ℕ) → ((d : ℕ) × ((node : NetNode) × ((slice_get nodes d ≡ Some node) × (node_writes w node n i ≡ true)))) ⊎ ((d : ℕ) (node : NetNode) → slice_get nodes d ≡ Some node → node_writes w node n i ≡ false)
 find_writer w [] n i = inr (λ d node at. absurd cc)
-find_writer w (x ∷ xs) n i = elim (tells (node_writes w x n i)) [
+find_writer w (x ∷ xs) n i = elim (cases_Bool (node_writes w x n i)) [
   | inl writes ↦ inl (0, (x, (refl, writes)))
   | inr free ↦ elim (find_writer w xs n i) [
     | inl found ↦ inl (suc found.0, found.1)
@@ -67,14 +53,14 @@ IsOne s = (ins : List ℕ) (x y : Values) → IsCycle (plain x) x s.netlist ins 
 module _ (s : Situation) (nets : Nets) (widths : List ℕ) (can : CanSettle s.names widths s.inputs s.outputs nets) (signals : HasSignals s.names widths) (entered : PortsFit widths s.inputs (bits_at s.netlist.inputs)) (shows : PortsFit widths s.outputs (bits_at s.netlist.outputs)) where
   -- a bit that a node does not write, it does not give a value
   not_given : (x : Values) (store : List ℕ) → IsStore s.names widths store → (node : NetNode) (n i : ℕ) → node_writes (wiring s.names s.inputs s.outputs) node n i ≡ false → some_gives (node_updates s x store node) n i ≡ false
-  not_given x store is node n i free = elim (tells (some_gives (node_updates s x store node) n i)) [
+  not_given x store is node n i free = elim (cases_Bool (some_gives (node_updates s x store node) n i)) [
     | inl given ↦ absurd (let writes = gives_writes s widths signals entered shows x store node n i is given in cc)
     | inr none ↦ none
   ]
 
   -- a bit that its one writer does not give a value, none does
   no_other : (x : Values) (store : List ℕ) → IsStore s.names widths store → (c : ℕ) (node : NetNode) → slice_get nets.nodes c ≡ Some node → (n i : ℕ) → node_writes (wiring s.names s.inputs s.outputs) node n i ≡ true → some_gives (node_updates s x store node) n i ≡ false → (d : ℕ) (other : NetNode) → slice_get nets.nodes d ≡ Some other → some_gives (node_updates s x store other) n i ≡ false
-  no_other x store is c node at n i writes free d other there = elim (tells (some_gives (node_updates s x store other) n i)) [
+  no_other x store is c node at n i writes free d other there = elim (cases_Bool (some_gives (node_updates s x store other) n i)) [
     | inr none ↦ none
     | inl given ↦
         let w : Wiring = wiring s.names s.inputs s.outputs in
@@ -101,7 +87,7 @@ module _ (s : Situation) (nets : Nets) (widths : List ℕ) (can : CanSettle s.na
         let us : List Update = node_updates s x a node in
         let vs : List Update = node_updates s y b node in
         let same : us ≡ vs = updates_agree c node at reads in
-        elim (tells (some_gives us n i)) [
+        elim (cases_Bool (some_gives us n i)) [
           | inl given ↦
               let here : store_bit a n i ≡ all_left us n i 0 = hold_bit widths us (node_fits s widths signals entered shows x a node is_a) a n i 0 (sym is_a.long) (ha.each c node at).holds given in
               let there : store_bit b n i ≡ all_left vs n i 0 = hold_bit widths vs (node_fits s widths signals entered shows y b node is_b) b n i 0 (sym is_b.long) (hb.each c node at).holds (ap (λ (l : List Update). some_gives l n i) (sym same) ∙ given) in

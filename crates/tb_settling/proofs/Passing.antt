@@ -1,32 +1,12 @@
 -- A node settles after others, which stay settled.
-use Rattle.std.proofs.Common.{◌≡◌, suc, ℕ, ◌+◌, ◌^◌, ◌<◌, ◌≤◌, Bool, true, false, ◌&&◌, ◌||◌, nat_eq, nat_le, nat_lt, List, [], ◌∷◌, map, length, take, get_or, slice_get, Option, Some, refl, sym, ap, ◌∙◌, subst, ◌⊎◌, inl, inr, arith}
-use Rattle.std.specs.Prelude.{slice_index}
-use Rattle.std.specs.List.{All, Contains}
-use Rattle.std.proofs.lemmas.Bool.{cases_lt}
-use Rattle.std.proofs.lemmas.Bool.Decides.{nat_tests, eqb_tells}
-use Rattle.std.proofs.lemmas.List.{get_or-take, length-take-le, get_or_default}
-use Rattle.std.proofs.lemmas.List.Elements.{All-nil, All-cons}
-use Rattle.std.proofs.lemmas.Nat.Bits.{same_from_bits_below}
-use Rattle.netlist_core.specs.declared.bit.Bit.{Bit}
-use Rattle.netlist_core.specs.Numbers.{number}
-use Rattle.netlist_core.specs.Runs.{bits_at, plain, shown, values, Nets as Values, Holds as IsCycle}
-use Rattle.netlist_core.proofs.Settles.{number-fits, length-values}
-use Rattle.vlog_syntax.specs.declared.stmt.Assignment.{Assignment}
-use Rattle.vlog_meaning.specs.Scopes.{Names}
-use Rattle.net_order.specs.Orders.{IsReady, IsLeastReady, IsInOrder}
-use Rattle.tb_machine.specs.declared.update.Update.{Update}
-use Rattle.tb_machine.specs.Worlds.{all_applied, gives, some_gives, Fits}
-use Rattle.tb_machine.specs.Phases.{Hold}
-use Rattle.tb_assigns.proofs.Fitting.{all_fit}
-use Rattle.tb_evaluator.specs.Meanings.{HasSignals}
-use Rattle.tb_evaluator.proofs.Served.{updates_fit}
-use Rattle.tb_nets.specs.declared.node.NetNode.{NetNode}
-use Rattle.tb_nets.specs.declared.node.NetNode.TheVariants.{Assign, Design}
-use Rattle.tb_nets.specs.declared.nets.Nets.{Nets}
+use Rattle.tb_settling.proofs.Common.{◌≡◌, suc, ℕ, ◌+◌, ◌^◌, ◌<◌, ◌≤◌, true, false, ◌&&◌, nat_eq, nat_le, nat_lt, List, [], ◌∷◌, map, length, take, get_or, slice_get, Option, Some, refl, sym, ap, ◌∙◌}
+use Rattle.tb_settling.proofs.Common.{subst, ◌⊎◌, inl, inr, arith, slice_index, All, Contains, cases_lt, or_cases, or_left, or_right, and_from, cases_Bool, nat_tests, eqb_tells, get_or-take}
+use Rattle.tb_settling.proofs.Common.{length-take-le, get_or_default, All-nil, All-cons, same_from_bits_below, Bit, number, bits_at, plain, shown, values, Values, IsCycle, number-fits, length-values}
+use Rattle.tb_settling.proofs.Common.{Assignment, Names, IsReady, IsLeastReady, IsInOrder, Update, all_applied, gives, some_gives, Fits, Hold, all_fit, HasSignals, updates_fit, NetNode, Assign}
+use Rattle.tb_settling.proofs.Common.{Design, Nets, still, assign_updates, values_at, whole_updates, CanSettle, Situation, PortsFit, IsSide, node_updates, IsCycleOf, HasSettled, IsStore, HaveSettled}
+use Rattle.tb_settling.proofs.Common.{below_is, same_node, and-left, and-right}
 use Rattle.tb_nets.specs.Nets.{Wiring, wiring, signal_bits, node_reads, node_writes, reads_of, writes_of, ReadsNode}
-use Rattle.tb_settling.specs.Settling.{still, assign_updates, values_at, whole_updates, CanSettle}
-use Rattle.tb_settling.specs.Nodes.{Situation, PortsFit, IsSide, node_updates, IsCycleOf, HasSettled, IsStore, HaveSettled}
-use Rattle.tb_settling.proofs.Stores.{store_bit, tells, other_bit, holds_after, hold_moves}
+use Rattle.tb_settling.proofs.Stores.{store_bit, other_bit, holds_after, hold_moves}
 use Rattle.tb_settling.proofs.Windows.{updates_rest, stay_inside}
 
 -- The outputs of the design.
@@ -37,41 +17,11 @@ heads a b xs ys e = cc
 tails : (a b : ℕ) (xs ys : List ℕ) → a ∷ xs ≡ b ∷ ys → xs ≡ ys
 tails a b xs ys e = cc
 
-and_left : (a b : Bool) → (a && b) ≡ true → a ≡ true
-and_left true b e = refl
-and_left false b e = absurd cc
-
-and_right : (a b : Bool) → (a && b) ≡ true → b ≡ true
-and_right true b e = e
-and_right false b e = absurd cc
-
-or_cases : (a b : Bool) → (a || b) ≡ true → (a ≡ true) ⊎ (b ≡ true)
-or_cases true b e = inl refl
-or_cases false b e = inr e
-
-or_left : (a b : Bool) → a ≡ true → (a || b) ≡ true
-or_left true b e = refl
-or_left false b e = absurd cc
-
-or_right : (a b : Bool) → b ≡ true → (a || b) ≡ true
-or_right true b e = refl
-or_right false b e = e
-
-and_both : (a b : Bool) → a ≡ true → b ≡ true → (a && b) ≡ true
-and_both true b e f = f
-and_both false b e f = absurd cc
-
 lt_is : (a b : ℕ) → nat_lt a b ≡ true → a < b
 lt_is a b h = grind (arith, nat_tests)
 
-is_lt : (a b : ℕ) → a < b → nat_lt a b ≡ true
-is_lt a b h = grind (arith, nat_tests)
-
 is_number : (n : ℕ) → nat_eq n n ≡ true
 is_number n = elim (eqb_tells n n) [ inl same ↦ same.0 | inr other ↦ absurd (other.1 refl) ]
-
-pub none_true : (b : Bool) → b ≡ false → b ≡ true → ⊥
-none_true b e f = absurd cc
 
 -- each bit that they give is one of the signals
 whole_gives : (widths ks : List ℕ) (ports : List (List Bit)) (vs : List ℕ) (n i : ℕ) → map (slice_index widths) ks ≡ map length ports → ((k : ℕ) → slice_index widths k ≤ 128) → some_gives (whole_updates ks ports vs) n i ≡ true → signal_bits ks n i ≡ true
@@ -84,8 +34,8 @@ whole_gives widths (k ∷ ks) (bits ∷ ports) (v ∷ vs) n i e narrow h =
       | inl here ↦
           let width : slice_index widths k ≡ length bits = heads (slice_index widths k) (length bits) (map (slice_index widths) ks) (map length ports) e in
           let most = narrow k in
-          let below : i < 0 + length bits = lt_is i (0 + length bits) (and_right (nat_le 0 i) (nat_lt i (0 + length bits)) (and_right (nat_eq n k) (nat_le 0 i && nat_lt i (0 + length bits)) here)) in
-          or_left (nat_eq n k && nat_lt i 128) (signal_bits ks n i) (and_both (nat_eq n k) (nat_lt i 128) (and_left (nat_eq n k) (nat_le 0 i && nat_lt i (0 + length bits)) here) (is_lt i 128 (omega (arith, below, width, most))))
+          let below : i < 0 + length bits = lt_is i (0 + length bits) (and-right (nat_le 0 i) (nat_lt i (0 + length bits)) (and-right (nat_eq n k) (nat_le 0 i && nat_lt i (0 + length bits)) here)) in
+          or_left (nat_eq n k && nat_lt i 128) (signal_bits ks n i) (and_from (nat_eq n k) (nat_lt i 128) (and-left (nat_eq n k) (nat_le 0 i && nat_lt i (0 + length bits)) here) (below_is i 128 (omega (arith, below, width, most))))
       | inr later ↦ or_right (nat_eq n k && nat_lt i 128) (signal_bits ks n i) (whole_gives widths ks ports vs n i (tails (slice_index widths k) (length bits) (map (slice_index widths) ks) (map length ports) e) narrow later)
     ]
 
@@ -108,7 +58,7 @@ whole_fits widths (k ∷ ks) (bits ∷ ports) x e known some =
 pub inputs_same : (ks s t : List ℕ) → ((n : ℕ) → slice_index s n < 2 ^ 128) → ((n : ℕ) → slice_index t n < 2 ^ 128) → ((n i : ℕ) → signal_bits ks n i ≡ true → store_bit s n i ≡ store_bit t n i) → values_at ks s ≡ values_at ks t
 inputs_same [] s t a b same = refl
 inputs_same (k ∷ ks) s t a b same =
-    let first : slice_index s k ≡ slice_index t k = same_from_bits_below 128 (slice_index s k) (slice_index t k) (a k) (b k) (λ i h. same k i (or_left (nat_eq k k && nat_lt i 128) (signal_bits ks k i) (and_both (nat_eq k k) (nat_lt i 128) (is_number k) (is_lt i 128 h)))) in
+    let first : slice_index s k ≡ slice_index t k = same_from_bits_below 128 (slice_index s k) (slice_index t k) (a k) (b k) (λ i h. same k i (or_left (nat_eq k k && nat_lt i 128) (signal_bits ks k i) (and_from (nat_eq k k) (nat_lt i 128) (is_number k) (below_is i 128 h)))) in
     let rest : values_at ks s ≡ values_at ks t = inputs_same ks s t a b (λ n i h. same n i (or_right (nat_eq n k && nat_lt i 128) (signal_bits ks n i) h)) in
     ap (λ (n : ℕ). n ∷ values_at ks s) first ∙ ap (λ (l : List ℕ). slice_index t k ∷ l) rest
 
@@ -190,9 +140,6 @@ reads_at w nodes c node n i at h = ap (λ (o : Option NetNode). reads_of w o n i
 pub writes_at : (w : Wiring) (nodes : List NetNode) (c : ℕ) (node : NetNode) (n i : ℕ) → slice_get nodes c ≡ Some node → node_writes w node n i ≡ true → writes_of w (slice_get nodes c) n i ≡ true
 writes_at w nodes c node n i at h = ap (λ (o : Option NetNode). writes_of w o n i) at ∙ h
 
-pub same_node : (a b : NetNode) → Some a ≡ Some b → a ≡ b
-same_node a b e = cc
-
 pub side_of : (names : Names) (widths inputs outputs : List ℕ) (nets : Nets) → CanSettle names widths inputs outputs nets → (k : ℕ) (node : NetNode) → slice_get nets.nodes k ≡ Some node → IsSide names node
 side_of names widths inputs outputs nets can k (Assign a) at = can.sides k a at
 side_of names widths inputs outputs nets can k Design at = tt
@@ -235,7 +182,7 @@ module _ (s : Situation) (nets : Nets) (widths : List ℕ) (can : CanSettle s.na
       bit_stays : (n i : ℕ) → (node_writes (wiring s.names s.inputs s.outputs) node n i ≡ true → ⊥) → store_bit store n i ≡ store_bit t n i
       bit_stays n i other =
           let us : List Update = node_updates s new store node in
-          elim (tells (some_gives us n i)) [
+          elim (cases_Bool (some_gives us n i)) [
             | inl gives_it ↦ absurd (other (gives_writes s widths signals entered shows new store node n i is gives_it))
             | inr free ↦ sym (ap (λ (l : List ℕ). store_bit l n i) goes ∙ other_bit widths us (node_fits s widths signals entered shows new store node is) store n i (sym is.long) free)
           ]

@@ -1,24 +1,11 @@
 -- What plans of assigns give, and signals that get values whole.
-use Rattle.std.proofs.Common.{◌≡◌, zero, suc, ℕ, ◌+◌, ◌*◌, ◌/◌, ◌%◌, ◌^◌, ◌<◌, List, [], ◌∷◌, map, length, Option, Some, None, sym, ap, ◌∙◌, subst, zero-add, arith}
-use Rattle.std.specs.Prelude.{slice_index, slice_set}
+use Rattle.tb_settling.proofs.Common.{◌≡◌, zero, suc, ℕ, ◌+◌, ◌*◌, ◌/◌, ◌%◌, ◌^◌, ◌<◌, List, [], ◌∷◌, map, length, Option, Some, None, sym, ap, ◌∙◌, subst, zero-add, arith, slice_index, slice_set}
+use Rattle.tb_settling.proofs.Common.{All, All-head, Word, Lcg, Assignment, Names, store_of, Update, World, assigned, Fits, all_fit, store_in, HasSignals, same_store, updates_fit, Transfer}
+use Rattle.tb_settling.proofs.Common.{IsTransferOf, transfer_updates, assign_updates, still}
 use Rattle.std.proofs.Math.Nat.{div-eq_of_lt, mod-one}
-use Rattle.std.specs.List.{All}
-use Rattle.std.proofs.lemmas.List.Elements.{All-head}
-use Rattle.mcy_base.specs.declared.word.Word.{Word}
-use Rattle.rand_pcg.specs.Lcg.{Lcg}
-use Rattle.vlog_syntax.specs.declared.stmt.Assignment.{Assignment}
-use Rattle.vlog_meaning.specs.Scopes.{Names, store_of}
-use Rattle.tb_machine.specs.declared.update.Update.{Update}
-use Rattle.tb_machine.specs.Worlds.{World, assigned, Fits}
 use Rattle.tb_assigns.specs.Pieces.{listed}
-use Rattle.tb_assigns.proofs.Fitting.{all_fit}
-use Rattle.tb_evaluator.specs.Meanings.{store_in, HasSignals}
-use Rattle.tb_evaluator.proofs.Served.{same_store, updates_fit}
 use Rattle.tb_plans.specs.declared.copy.Copied.{Copied}
-use Rattle.tb_plans.specs.declared.transfer.Transfer.{Transfer}
 use Rattle.tb_plans.specs.Copies.{IsCopied}
-use Rattle.tb_plans.specs.Transfers.{IsTransferOf, transfer_updates}
-use Rattle.tb_settling.specs.Settling.{assign_updates, still}
 
 -- What a plan gives, from words and from a world with their numbers.
 
@@ -61,7 +48,7 @@ module _ (names : Names) (a : Assignment) (t : Transfer) (of : IsTransferOf name
 
 -- A value that is replaced as a whole.
 
-fits_at : (ws : List Word) (k : ℕ) → slice_index (map (λ x. x.bits) ws) k < 2 ^ slice_index (map (λ x. x.width) ws) k
+pub fits_at : (ws : List Word) (k : ℕ) → slice_index (map (λ x. x.bits) ws) k < 2 ^ slice_index (map (λ x. x.width) ws) k
 fits_at [] k = omega arith
 fits_at (x ∷ xs) zero = x.fits
 fits_at (x ∷ xs) (suc k) = fits_at xs k

@@ -1,66 +1,25 @@
 -- What is evaluated depends on the bits that an expression reads.
-use Rattle.std.proofs.Common.{◌≡◌, ℕ, ◌<◌, Bool, true, false, ◌&&◌, ◌||◌, ◌==◌, nat_lt, ℤ, pos, ◌-ℤ◌, List, [], ◌∷◌, ◌++◌, map, refl, sym, ap, ◌∙◌, subst, arith}
+use Rattle.tb_settling.proofs.Common.{◌≡◌, ℕ, ◌<◌, true, ◌&&◌, ◌==◌, nat_lt, ℤ, pos, ◌-ℤ◌, List, [], ◌∷◌, ◌++◌, map, refl, sym, ap, ◌∙◌, subst, arith, nat_tests, Lcg, Expr, Identifier, Decl, Shape}
+use Rattle.tb_settling.proofs.Common.{integer, window, natural, Agree, Names, Store, decl_low, decl_value, IsWithin, AreWithin, left_nil, right_nil, these_nil, settled, name_same, part_same}
+use Rattle.tb_settling.proofs.Common.{these_agree, those_agree}
 use Rattle.std.specs.Prelude.{Option, None, Some}
-use Rattle.std.proofs.lemmas.Bool.Decides.{nat_tests}
-use Rattle.std.proofs.lemmas.Nat.Bits.{same_from_bits_below}
-use Rattle.rand_pcg.specs.Lcg.{Lcg}
 use Rattle.rand_pcg.specs.Pcg.{pcg32}
-use Rattle.vlog_syntax.specs.declared.expr.Expr.{Expr}
 use Rattle.vlog_syntax.specs.declared.expr.Expr.TheOpen as e
 use Rattle.vlog_syntax.specs.declared.expr.Expr.TheOpen.{Expr-F}
 use Rattle.vlog_syntax.specs.declared.expr.Expr.TheViews.{roll-Expr}
 use Rattle.vlog_syntax.specs.declared.expr.Expr.TheFolds.{fold-roll-Expr, ind-Expr, map-Expr}
-use Rattle.vlog_syntax.specs.declared.identifier.Identifier.{Identifier}
 use Rattle.vlog_meaning.specs.declared.fault.Fault.{Fault}
 use Rattle.vlog_meaning.specs.declared.function.Function.{Function}
 use Rattle.vlog_meaning.specs.declared.function.Function.TheVariants.{Signed, Unsigned, Clog2, Random, Time}
-use Rattle.vlog_meaning.specs.declared.scope.Decl.{Decl}
-use Rattle.vlog_meaning.specs.declared.scope.Decl.TheVariants.{Signal, Constant}
-use Rattle.vlog_meaning.specs.declared.shapes.Shape.{Shape}
 use Rattle.vlog_meaning.specs.Functions.{function_of}
-use Rattle.vlog_meaning.specs.Integers.{integer, window, natural}
-use Rattle.vlog_meaning.specs.Laws.{Agree}
 use Rattle.vlog_meaning.specs.Operators.{sizing, left_context, right_context, operand_context}
-use Rattle.vlog_meaning.specs.Scopes.{Names, Store, decl_low, decl_value, IsWithin, AreWithin}
-use Rattle.vlog_meaning.specs.Senses.{Bits, Sense, sense, senses, step, index_of, either, all_reads, name_bits, part_bits, select_bits, is_among, constant_integer, constant_faults, joined, name_signals, name_faults, all_signals, all_faults, all_features, call_shape, call_value, call_signals, call_faults, call_zeros}
-use Rattle.vlog_meaning.proofs.Blanks.{left_nil, right_nil, these_nil}
-use Rattle.vlog_meaning.proofs.Settled.{settled}
-use Rattle.vlog_meaning.proofs.Windows.{window_same}
+use Rattle.vlog_meaning.specs.Senses.{Sense, sense, senses, step, index_of, either, all_reads, name_bits, part_bits, select_bits, constant_integer, constant_faults, joined, name_signals, name_faults}
+use Rattle.vlog_meaning.specs.Senses.{all_signals, all_faults, all_features, call_shape, call_value, call_signals, call_faults, call_zeros}
 use Rattle.tb_values.specs.Draws.{Drawn, drawn, drawn_step, all_drawn, call_drawn, number_sense, random_shape, time_shape}
-
-these_hold : (a b : Bool) → a ≡ true → a || b ≡ true
-these_hold true b h = refl
-these_hold false b h = cc
-
-those_hold : (a b : Bool) → b ≡ true → a || b ≡ true
-those_hold true b h = refl
-those_hold false b h = h
-
-pub these_agree : (p q : Bits) (s t : Store) → Agree (either p q) s t → Agree p s t
-these_agree p q s t agree number at h = agree number at (these_hold (p number at) (q number at) h)
-
-pub those_agree : (p q : Bits) (s t : Store) → Agree (either p q) s t → Agree q s t
-those_agree p q s t agree number at h = agree number at (those_hold (p number at) (q number at) h)
+use Rattle.vlog_meaning.proofs.Same.{no_signals}
 
 named : (number at width : ℕ) → at < width → number == number && nat_lt at width ≡ true
 named number at width h = grind (arith, nat_tests)
-
-named_among : (number at width : ℕ) (b : Bool) → at < width → b ≡ true → (number == number && nat_lt at width) && b ≡ true
-named_among number at width b h e = rw (named number at width h, e) refl
-
-name_same : (d : Option Decl) (s t : Store) → IsWithin s d → IsWithin t d → Agree (name_bits d) s t → decl_value s d ≡ decl_value t d
-name_same (Some (Signal width low is_signed number)) s t within within_too agree = same_from_bits_below width (s number) (t number) within within_too (λ i h. agree number i (named number i width h))
-name_same (Some (Constant value low is_signed)) s t within within_too agree = refl
-name_same None s t within within_too agree = refl
-
-part_same : (d : Option Decl) (from : ℤ) (size : ℕ) (s t : Store) → IsWithin s d → IsWithin t d → Agree (part_bits d from size) s t → window from size (decl_value s d) ≡ window from size (decl_value t d)
-part_same (Some (Signal width low is_signed number)) from size s t within within_too agree = window_same from size width (s number) (t number) within within_too (λ i h e. agree number i (named_among number i width (is_among from size i) h e))
-part_same (Some (Constant value low is_signed)) from size s t within within_too agree = refl
-part_same None from size s t within within_too agree = refl
-
--- a constant reads no signal
-quiet_constant : (a : Sense) → constant_faults a ≡ [] → a.signals ≡ []
-quiet_constant a e = left_nil _ a.faults (these_nil _ _ e)
 
 -- what a part says in a design, and in an evaluation: one that reads no signal says the same, and the value of one in which
 -- nothing is wrong depends on the bits that are read
@@ -188,8 +147,8 @@ layer names phase (e.PartSelect n s i j) g =
     let a = sense names i.0 in
     let b = sense names j.0 in
     let constants = λ (f : (step names (e.PartSelect n s a b)).faults ≡ []). these_nil _ _ (right_nil (name_faults n.span (names n.name)) _ f) in
-    let here = λ (f : (step names (e.PartSelect n s a b)).faults ≡ []). k.quiet (quiet_constant a (left_nil _ (constant_faults b) (constants f))) in
-    let there = λ (f : (step names (e.PartSelect n s a b)).faults ≡ []). l.quiet (quiet_constant b (right_nil (constant_faults a) _ (constants f))) in
+    let here = λ (f : (step names (e.PartSelect n s a b)).faults ≡ []). k.quiet (no_signals a (left_nil _ (constant_faults b) (constants f))) in
+    let there = λ (f : (step names (e.PartSelect n s a b)).faults ≡ []). l.quiet (no_signals b (right_nil (constant_faults a) _ (constants f))) in
     record {
       quiet = λ q. let rest = right_nil (name_signals n.span (names n.name)) (a.signals ++ b.signals) q in rw (k.quiet (left_nil a.signals b.signals rest), l.quiet (right_nil a.signals b.signals rest)) refl;
       rests = λ f u v w z agree c. rw (here f, there f) (part_same (names n.name) _ _ u v (w n.name) (z n.name) agree);
@@ -200,7 +159,7 @@ layer names phase (e.IndexedPartSelect n s i j) g =
     let a = sense names i.0 in
     let b = sense names j.0 in
     let rest = λ (f : (step names (e.IndexedPartSelect n s a b)).faults ≡ []). right_nil (name_faults n.span (names n.name)) _ f in
-    let there = λ (f : (step names (e.IndexedPartSelect n s a b)).faults ≡ []). l.quiet (quiet_constant b (these_nil _ _ (right_nil a.faults _ (rest f)))) in
+    let there = λ (f : (step names (e.IndexedPartSelect n s a b)).faults ≡ []). l.quiet (no_signals b (these_nil _ _ (right_nil a.faults _ (rest f)))) in
     record {
       quiet = λ q. let after = right_nil (name_signals n.span (names n.name)) (a.signals ++ b.signals) q in rw (k.quiet (left_nil a.signals b.signals after), l.quiet (right_nil a.signals b.signals after)) refl;
       rests = λ f u v w z agree c. rw (there f) (select_same names u v w z (names n.name) i.0 (drawn names phase i.0 g).0 (natural (constant_integer b)) (w n.name) (z n.name) k.quiet (λ reads. k.rests (left_nil a.faults _ (rest f)) u v w z reads) agree);

@@ -1,10 +1,5 @@
 -- The bits of a value some of whose bits were replaced.
-use Rattle.std.proofs.Common.{◌≡◌, ℕ, ◌+◌, ◌-◌, ◌*◌, ◌/◌, ◌%◌, ◌^◌, ◌<◌, ◌≤◌, sym, ap, ◌∙◌, arith, div-add-mod', mod-lt}
-use Rattle.std.specs.Int.{bit_at}
-use Rattle.std.proofs.lemmas.Nat.{pow_pos}
-use Rattle.std.proofs.lemmas.Nat.Bits.{bit_at_cat_low, bit_at_cat_high}
-use Rattle.tb_machine.specs.declared.update.Update.{Update}
-use Rattle.tb_machine.specs.Worlds.{replaced}
+use Rattle.tb_settling.proofs.Common.{◌≡◌, ℕ, ◌+◌, ◌-◌, ◌*◌, ◌/◌, ◌%◌, ◌^◌, ◌<◌, ◌≤◌, sym, ap, ◌∙◌, arith, div-add-mod', mod-lt, bit_at, pow_pos, bit_at_cat_low, bit_at_cat_high, Update, replaced}
 use Rattle.tb_machine.proofs.Places.{low_and_middle}
 
 -- the lower bits of a number, and the higher ones

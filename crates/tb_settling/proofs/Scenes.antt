@@ -1,23 +1,14 @@
 -- The values of a scene are those of its signals.
-use Rattle.std.proofs.Common.{◌≡◌, zero, suc, ℕ, ◌<◌, ◌≤◌, ◌^◌, List, [], ◌∷◌, map, length, sym, ap, ◌∙◌, subst, arith}
-use Rattle.std.specs.Prelude.{slice_index}
-use Rattle.std.proofs.lemmas.List.{length-map}
-use Rattle.std.proofs.lemmas.Nat.{pow_pos}
+use Rattle.tb_settling.proofs.Common.{◌≡◌, zero, suc, ℕ, ◌<◌, ◌≤◌, ◌^◌, List, [], ◌∷◌, map, length, sym, ap, ◌∙◌, subst, arith, slice_index, length-map, pow_pos, Word, Names, Store, AreWithin}
+use Rattle.tb_settling.proofs.Common.{words_within, World, HasSignals, signals_fit, same_store, IsStore}
 use Rattle.std.proofs.Math.Pow.{pow_mono}
-use Rattle.mcy_base.specs.declared.word.Word.{Word}
-use Rattle.vlog_meaning.specs.Scopes.{Names, Store, AreWithin}
-use Rattle.vlog_meaning.proofs.Reading.{words_within}
-use Rattle.tb_machine.specs.Worlds.{World}
-use Rattle.tb_evaluator.specs.Meanings.{HasSignals}
-use Rattle.tb_evaluator.proofs.Served.{signals_fit, same_store}
-use Rattle.tb_settling.specs.Nodes.{IsStore}
 
-some_widths : (ws : List Word) (n : ℕ) → n < length (map (λ w. w.width) ws) → 1 ≤ slice_index (map (λ w. w.width) ws) n
+pub some_widths : (ws : List Word) (n : ℕ) → n < length (map (λ w. w.width) ws) → 1 ≤ slice_index (map (λ w. w.width) ws) n
 some_widths [] n h = absurd (omega (arith, h))
 some_widths (w ∷ ws) zero h = w.some
 some_widths (w ∷ ws) (suc n) h = some_widths ws n (omega (arith, h))
 
-most_widths : (ws : List Word) (n : ℕ) → slice_index (map (λ w. w.width) ws) n ≤ 128
+pub most_widths : (ws : List Word) (n : ℕ) → slice_index (map (λ w. w.width) ws) n ≤ 128
 most_widths [] n = omega arith
 most_widths (w ∷ ws) zero = w.narrow
 most_widths (w ∷ ws) (suc n) = most_widths ws n

@@ -1,16 +1,8 @@
 -- What signals get that stand for ports, one port after the other.
-use Rattle.std.proofs.Common.{◌≡◌, zero, suc, ℕ, ◌+◌, ◌^◌, ◌<◌, ◌≤◌, List, [], ◌∷◌, map, length, drop, slice_get, Some, refl, sym, ap, ◌∙◌, arith, add-one}
-use Rattle.std.specs.Prelude.{slice_index, slice_index_or}
-use Rattle.std.proofs.lemmas.List.{length-map, drop_all}
-use Rattle.netlist_core.specs.declared.bit.Bit.{Bit}
-use Rattle.netlist_core.specs.declared.port.Port.{Port}
-use Rattle.netlist_core.specs.Checked.{Plan, IsSound, AllWide, all_bits}
+use Rattle.tb_settling.proofs.Common.{◌≡◌, zero, suc, ℕ, ◌+◌, ◌^◌, ◌<◌, ◌≤◌, List, [], ◌∷◌, map, length, drop, slice_get, Some, refl, sym, ap, ◌∙◌, arith, add-one, slice_index, slice_index_or}
+use Rattle.tb_settling.proofs.Common.{length-map, drop_all, Bit, Port, Plan, IsSound, all_bits, bits_at, q_bits, whole_updates, PortsFit, whole_update}
 use Rattle.netlist_core.specs.Drivers.{y_bits}
-use Rattle.netlist_core.specs.Runs.{bits_at, q_bits}
-use Rattle.mcy_base.specs.declared.word.Word.{Word}
-use Rattle.cycle_sim.specs.Simulated.{HaveWidths}
-use Rattle.tb_settling.specs.Settling.{whole_updates}
-use Rattle.tb_settling.specs.Nodes.{PortsFit, whole_update}
+use Rattle.cycle_sim.proofs.Plans.{ports-few}
 
 pub drop_whole : (ks : List ℕ) (ports : List (List Bit)) (vs : List ℕ) (k : ℕ) → length ks ≡ length ports → length vs ≡ length ports → k < length ks → drop k (whole_updates ks ports vs) ≡ whole_update ks ports vs k ∷ drop (k + 1) (whole_updates ks ports vs)
 drop_whole [] ports vs k e f h = absurd (omega (arith, h))
@@ -47,24 +39,9 @@ port_at [] k h = absurd (omega arith)
 port_at (p ∷ more) zero h = (p, refl, refl)
 port_at (p ∷ more) (suc k) h = port_at more k (omega arith)
 
--- words of the ports' widths
-pub have_widths : (ports : List (List Bit)) (words : List Word) → map (λ w. w.width) words ≡ map length ports → HaveWidths ports words
-have_widths [] [] e = tt
-have_widths [] (w ∷ ws) e = absurd cc
-have_widths (bits ∷ more) [] e = absurd cc
-have_widths (bits ∷ more) (w ∷ ws) e =
-    let first : w.width ≡ length bits = cc in
-    let rest : map (λ x. x.width) ws ≡ map length more = cc in
-    (first, have_widths more ws rest)
-
--- outputs are few
-some_bits : (ports : List (List Bit)) → AllWide ports → length ports ≤ all_bits ports
-some_bits [] wide = omega arith
-some_bits (bits ∷ more) wide = let here = wide.0 in let rest = some_bits more wide.2 in omega (arith, here, rest)
-
 pub outputs_few : (plan : Plan) → IsSound plan → length plan.raw.outputs < 2 ^ 32
 outputs_few plan sound =
-    let some = some_bits (bits_at plan.raw.outputs) sound.formed.outputs in
+    let some = ports-few (bits_at plan.raw.outputs) sound.formed.outputs in
     let bits : all_bits (bits_at plan.raw.inputs) + all_bits (bits_at plan.raw.outputs) + all_bits (q_bits plan.raw.registers) + all_bits (y_bits plan.raw.cells) ≤ 1048577 = sound.connected.driven.shaped.small.bits in
     let long = length-map plan.raw.outputs (λ (p : Port). p.bits) in
     omega (arith, some, bits, long)

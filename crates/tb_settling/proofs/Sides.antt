@@ -1,34 +1,23 @@
 -- Sides of assignments with shapes fit.
-use Rattle.std.proofs.Common.{◌≡◌, Bool, true, false, ◌&&◌, List, [], ◌∷◌, ◌++◌, map, refl, sym, ap, ◌∙◌, subst}
+use Rattle.tb_settling.proofs.Common.{◌≡◌, Bool, true, ◌&&◌, List, [], ◌∷◌, ◌++◌, map, refl, sym, subst, Identifier, Expr, Assignment, Names, left_nil, right_nil, AreFit, check_can, and_left}
+use Rattle.tb_settling.proofs.Common.{and_right, empty_is, SidesFit}
 use Rattle.mcy_base.specs.declared.span.Span.{Span}
-use Rattle.vlog_syntax.specs.declared.identifier.Identifier.{Identifier}
-use Rattle.vlog_syntax.specs.declared.expr.Expr.{Expr}
 use Rattle.vlog_syntax.specs.declared.expr.Expr.TheVariants as v
 use Rattle.vlog_syntax.specs.declared.left_side.LeftSide.{LeftSide}
 use Rattle.vlog_syntax.specs.declared.left_side.LeftSide.TheOpen as l
 use Rattle.vlog_syntax.specs.declared.left_side.LeftSide.TheOpen.{LeftSide-F}
 use Rattle.vlog_syntax.specs.declared.left_side.LeftSide.TheViews.{roll-LeftSide}
 use Rattle.vlog_syntax.specs.declared.left_side.LeftSide.TheFolds.{fold-roll-LeftSide, ind-LeftSide, map-LeftSide}
-use Rattle.vlog_syntax.specs.declared.stmt.Assignment.{Assignment}
-use Rattle.vlog_meaning.specs.declared.fault.Fault.{Fault}
-use Rattle.vlog_meaning.specs.Scopes.{Names}
-use Rattle.vlog_meaning.specs.Senses.{Sense, sense, senses, all_faults, is_empty, IsWhole}
-use Rattle.vlog_meaning.proofs.Blanks.{left_nil, right_nil}
+use Rattle.vlog_meaning.specs.Senses.{sense, senses, all_faults, IsWhole}
 use Rattle.vlog_meaning.proofs.Steps.{sense_bit_select, sense_part_select, sense_indexed_part_select}
-use Rattle.vlog_meaning.proofs.Whole.{name_sized, whole_name, whole_index, whole_part, whole_indexed, whole_join}
+use Rattle.vlog_meaning.proofs.Whole.{name_sized, whole_name, whole_index, whole_part, whole_indexed, whole_join, says}
 use Rattle.vlog_effects.specs.LeftSides.{Part, Whole, Bit, Range, Indexed, parts_of, parts_step, concatenated}
 use Rattle.elab_proc.specs.Refusals.{same_form, form_step}
-use Rattle.signal_masks.specs.Parts.{AreFit}
 use Rattle.tb_assigns.specs.Checks.{has_shape, all_signals, can_assign}
 use Rattle.tb_assigns.specs.Updates.{CanAssign}
-use Rattle.tb_assigns.proofs.Checking.{check_can}
-use Rattle.tb_settling.specs.Laws.{SidesFit}
 
 abbrev Fits : Names → Expr → List Part → Type 0
 Fits names e ps = IsWhole names e → AreFit names ps
-
-says : (names : Names) (x : Expr) (s : Sense) → sense names x ≡ s → IsWhole names x → s.faults ≡ []
-says names x s is whole = ap (λ (y : Sense). y.faults) (sym is) ∙ whole
 
 fits_name : (names : Names) (n : Identifier) → Fits names (v.Name n) (record { name = n; select = Whole } ∷ [])
 fits_name names n whole = ((whole_name names (v.Name n) n refl whole, tt), tt)
@@ -80,18 +69,6 @@ from_step names x h =
 
 left_fits : (names : Names) (left : LeftSide) → Fits names (same_form left) (parts_of left)
 left_fits names = ind-LeftSide (λ left. Fits names (same_form left) (parts_of left)) (λ x y is. from_step names x (subst (λ (z : LeftSide-F LeftSide). Fits names (form_step (map-LeftSide LeftSide Expr same_form z)) (parts_step (map-LeftSide LeftSide (List Part) parts_of z))) is (layer names y)))
-
-and_left : (a b : Bool) → a && b ≡ true → a ≡ true
-and_left true b e = refl
-and_left false b e = absurd cc
-
-and_right : (a b : Bool) → a && b ≡ true → b ≡ true
-and_right true b e = e
-and_right false b e = absurd cc
-
-empty_is : (xs : List Fault) → is_empty xs ≡ true → xs ≡ []
-empty_is [] e = refl
-empty_is (x ∷ xs) e = absurd cc
 
 pub sides_fit : SidesFit
 sides_fit names a can =

@@ -1,16 +1,7 @@
 -- The bits of a store in which updates were applied, and updates that hold in a store.
-use Rattle.std.proofs.Common.{◌≡◌, suc, ℕ, ◌+◌, ◌-◌, ◌^◌, ◌<◌, ◌≤◌, Bool, true, false, ◌&&◌, ◌||◌, nat_le, nat_lt, List, [], ◌∷◌, length, refl, sym, ap, ◌∙◌, ◌⊎◌, inl, inr, arith}
-use Rattle.std.specs.Prelude.{slice_index, if◌then◌else◌}
-use Rattle.std.specs.List.{All}
-use Rattle.std.specs.Int.{bit_at}
-use Rattle.std.proofs.lemmas.Bool.{cases_lt}
-use Rattle.std.proofs.lemmas.Bool.Decides.{eqb_tells, nat_tests}
-use Rattle.std.proofs.lemmas.List.{length-set, get_or-set_same, get_or-set_other}
-use Rattle.std.proofs.lemmas.List.Elements.{All-head, All-tail}
-use Rattle.std.proofs.lemmas.Nat.Bits.{same_from_bits}
-use Rattle.tb_machine.specs.declared.update.Update.{Update}
-use Rattle.tb_machine.specs.Worlds.{replaced, applied, all_applied, gives, some_gives, Fits}
-use Rattle.tb_machine.specs.Phases.{Hold}
+use Rattle.tb_settling.proofs.Common.{◌≡◌, suc, ℕ, ◌+◌, ◌-◌, ◌^◌, ◌<◌, ◌≤◌, Bool, true, false, ◌&&◌, ◌||◌, nat_le, nat_lt, List, [], ◌∷◌, length, refl, sym, ap, ◌∙◌, inl, inr, arith, slice_index}
+use Rattle.tb_settling.proofs.Common.{if◌then◌else◌, All, bit_at, cases_lt, or_parts, cases_Bool, eqb_tells, nat_tests, length-set, get_or-set_same, get_or-set_other, All-head, All-tail}
+use Rattle.tb_settling.proofs.Common.{same_from_bits, Update, replaced, applied, all_applied, gives, some_gives, Fits, Hold}
 use Rattle.tb_settling.proofs.Replacing.{bit_inside, bit_below, bit_above}
 
 -- bit i of signal n
@@ -80,19 +71,11 @@ pub left_given : (us : List Update) (n i b c : ℕ) → some_gives us n i ≡ tr
 left_given [] n i b c h = absurd cc
 left_given (u ∷ us) n i b c h = given_next u us n i b c (gives u n i) refl (λ later x y. left_given us n i x y later) h
 
-none_left : (a b : Bool) → (a || b) ≡ false → (a ≡ false) × (b ≡ false)
-none_left true b e = absurd cc
-none_left false b e = (refl, e)
-
 pub left_other : (us : List Update) (n i b : ℕ) → some_gives us n i ≡ false → all_left us n i b ≡ b
 left_other [] n i b h = refl
 left_other (u ∷ us) n i b h =
-    let both = none_left (gives u n i) (some_gives us n i) h in
+    let both = or_parts (gives u n i) (some_gives us n i) h in
     left_other us n i (left_by u n i b) both.1 ∙ ap (λ (g : Bool). if g then bit_at u.value (i - u.low) else b) both.0
-
-pub tells : (b : Bool) → (b ≡ true) ⊎ (b ≡ false)
-tells true = inl refl
-tells false = inr refl
 
 -- stores with the same bits
 pub same_store : (s t : List ℕ) → length s ≡ length t → ((n i : ℕ) → store_bit s n i ≡ store_bit t n i) → s ≡ t
@@ -118,7 +101,7 @@ module _ (widths : List ℕ) (us : List Update) (fits : All (Fits widths) us) wh
 
   -- where each bit that is given has its value, the updates hold
   pub holds_from : (s : List ℕ) → length widths ≡ length s → ((n i : ℕ) → some_gives us n i ≡ true → store_bit s n i ≡ all_left us n i 0) → Hold s us
-  holds_from s long given = same_store (all_applied s us) s (length_all us s) (λ n i. elim (tells (some_gives us n i)) [
+  holds_from s long given = same_store (all_applied s us) s (length_all us s) (λ n i. elim (cases_Bool (some_gives us n i)) [
     | inl h ↦ given_bit s n i 0 long h ∙ sym (given n i h)
     | inr h ↦ other_bit s n i long h
   ])

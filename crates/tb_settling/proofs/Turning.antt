@@ -1,20 +1,8 @@
 -- A turn of the pass: one node more has settled.
-use Rattle.std.proofs.Common.{◌≡◌, zero, suc, ℕ, ◌+◌, ◌<◌, List, [], ◌∷◌, map, length, take, get_or, slice_get, Option, Some, None, sym, ap, ◌∙◌, subst, arith}
-use Rattle.std.specs.Prelude.{slice_index}
-use Rattle.netlist_core.specs.Checked.{Plan}
-use Rattle.netlist_core.specs.Runs.{bits_at}
-use Rattle.cycle_sim.specs.Simulated.{Simulated, settled_nets}
-use Rattle.vlog_syntax.specs.declared.stmt.Assignment.{Assignment}
-use Rattle.vlog_meaning.specs.Scopes.{Names}
-use Rattle.tb_machine.specs.Worlds.{World, assigned, all_applied}
-use Rattle.tb_evaluator.specs.Meanings.{HasSignals}
-use Rattle.tb_plans.specs.declared.transfer.Transfer.{Transfer}
+use Rattle.tb_settling.proofs.Common.{◌≡◌, zero, suc, ℕ, ◌+◌, ◌<◌, List, [], ◌∷◌, map, length, take, get_or, slice_get, Option, Some, None, sym, ap, ◌∙◌, subst, arith, slice_index, Plan, bits_at}
+use Rattle.tb_settling.proofs.Common.{Simulated, settled_nets, Assignment, Names, World, assigned, all_applied, HasSignals, Transfer, NetNode, Assign, Design, Nets, CanSettle, Situation, situation}
+use Rattle.tb_settling.proofs.Common.{PortsFit, IsSide, IsOfNode, node_updates, IsCycleOf, IsStore, HaveSettled}
 use Rattle.tb_plans.specs.Plans.{AreNetPlans}
-use Rattle.tb_nets.specs.declared.node.NetNode.{NetNode}
-use Rattle.tb_nets.specs.declared.node.NetNode.TheVariants.{Assign, Design}
-use Rattle.tb_nets.specs.declared.nets.Nets.{Nets}
-use Rattle.tb_settling.specs.Settling.{CanSettle}
-use Rattle.tb_settling.specs.Nodes.{Situation, situation, PortsFit, IsSide, IsOfNode, node_updates, IsCycleOf, IsStore, HaveSettled}
 use Rattle.tb_settling.proofs.Passing.{side_of, next_settled}
 
 item_at : {A : Type 0} (items : List A) (k : ℕ) (item : A) → item ≡ get_or items k item → k < length items → slice_get items k ≡ Some item

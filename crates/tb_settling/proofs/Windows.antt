@@ -1,30 +1,21 @@
 -- The updates of an assignment: what they depend on, and which bits they give values.
-use Rattle.std.proofs.Common.{◌≡◌, zero, suc, ℕ, ◌+◌, ◌-◌, ◌/◌, ◌^◌, ◌<◌, ◌≤◌, min, ℤ, pos, negsuc, ◌-ℤ◌, Bool, true, false, not, ◌&&◌, ◌||◌, nat_eq, nat_le, nat_lt, List, [], ◌∷◌, ◌++◌, refl, sym, ap, ◌∙◌, subst, ◌⊎◌, inl, inr, arith}
+use Rattle.tb_settling.proofs.Common.{◌≡◌, zero, suc, ℕ, ◌+◌, ◌-◌, ◌/◌, ◌^◌, ◌<◌, ◌≤◌, min, ℤ, pos, negsuc, ◌-ℤ◌, Bool, true, false, not, ◌&&◌, ◌||◌, nat_eq, nat_le, nat_lt, List, [], ◌∷◌, ◌++◌, refl}
+use Rattle.tb_settling.proofs.Common.{sym, ap, ◌∙◌, subst, ◌⊎◌, inl, inr, arith, nat_tests, eqb_tells, Lcg, Expr, Decl, Shape, integer, Agree, Names, Store, AreWithin, settled, indices_read, Update}
+use Rattle.tb_settling.proofs.Common.{gives, some_gives, UpdatesRestOnReads, UpdatesStayInside, below_is, or_cases, or_left, or_right, and_from, cases_Bool, and-left, and-right, empty_is, these_agree}
+use Rattle.tb_settling.proofs.Common.{those_agree}
 use Rattle.std.specs.Prelude.{Option, Some, None}
-use Rattle.std.proofs.lemmas.Bool.Decides.{nat_tests, eqb_tells}
-use Rattle.rand_pcg.specs.Lcg.{Lcg}
-use Rattle.vlog_syntax.specs.declared.expr.Expr.{Expr}
-use Rattle.vlog_meaning.specs.declared.fault.Fault.{Fault}
-use Rattle.vlog_meaning.specs.declared.scope.Decl.{Decl}
 use Rattle.vlog_meaning.specs.declared.scope.Decl.TheVariants.{Signal, Constant}
-use Rattle.vlog_meaning.specs.declared.shapes.Shape.{Shape}
-use Rattle.vlog_meaning.specs.Integers.{integer}
-use Rattle.vlog_meaning.specs.Laws.{Agree}
-use Rattle.vlog_meaning.specs.Scopes.{Names, Store, AreWithin}
 use Rattle.vlog_meaning.specs.Senses.{Sense, sense, index_of, assigned, is_among, is_empty, name_bits, IsWhole}
-use Rattle.vlog_meaning.proofs.Settled.{settled}
 use Rattle.vlog_effects.specs.Latches.{index_reads, is_fixed, stands_in, part_covers, parts_cover}
 use Rattle.vlog_effects.specs.LeftSides.{Select, Whole, Bit, Range, Indexed, Part, Vector, vector_of, part_vector, parts_of, parts_width, select_base, select_width, places}
-use Rattle.signal_masks.specs.Parts.{indices_read}
-use Rattle.tb_machine.specs.declared.update.Update.{Update}
-use Rattle.tb_machine.specs.Worlds.{gives, some_gives}
 use Rattle.tb_values.specs.Draws.{drawn}
 use Rattle.tb_assigns.specs.Updates.{Window, index_drawn, base_drawn, window_drawn, windows_drawn, some_bits, clipped, window_update, total_size, updates_of, IsWholeSelect, AreParts}
 use Rattle.tb_nets.specs.Lefts.{part_opens, parts_open, left_writes}
-use Rattle.tb_settling.specs.Laws.{UpdatesRestOnReads, UpdatesStayInside}
-use Rattle.tb_settling.proofs.Placing.{stands}
-use Rattle.tb_settling.proofs.Reading.{these_agree, those_agree, value_rests, quiet_at}
+use Rattle.signal_masks.proofs.Placing.{stands}
+use Rattle.tb_settling.proofs.Reading.{value_rests, quiet_at}
 use Rattle.tb_settling.proofs.Sides.{sides_can}
+use Rattle.std.proofs.lemmas.Map.Views.{exact_unsigned_eq}
+use Rattle.tb_assigns.proofs.Checked.{same_vector}
 
 -- What they depend on.
 
@@ -68,34 +59,6 @@ updates_rest names phase a g can s t within within_too agree =
 
 -- Which bits they give values.
 
-tells : (b : Bool) → (b ≡ true) ⊎ (b ≡ false)
-tells true = inl refl
-tells false = inr refl
-
-or_cases : (a b : Bool) → (a || b) ≡ true → (a ≡ true) ⊎ (b ≡ true)
-or_cases true b e = inl refl
-or_cases false b e = inr e
-
-and_left : (a b : Bool) → (a && b) ≡ true → a ≡ true
-and_left true b e = refl
-and_left false b e = absurd cc
-
-and_right : (a b : Bool) → (a && b) ≡ true → b ≡ true
-and_right true b e = e
-and_right false b e = absurd cc
-
-and_both : (a b : Bool) → a ≡ true → b ≡ true → (a && b) ≡ true
-and_both true b e f = f
-and_both false b e f = absurd cc
-
-or_left : (a b : Bool) → a ≡ true → (a || b) ≡ true
-or_left true b e = refl
-or_left false b e = absurd cc
-
-or_right : (a b : Bool) → b ≡ true → (a || b) ≡ true
-or_right true b e = refl
-or_right false b e = e
-
 le_is : (a b : ℕ) → nat_le a b ≡ true → a ≤ b
 le_is a b h = grind (arith, nat_tests)
 
@@ -104,12 +67,6 @@ lt_is a b h = grind (arith, nat_tests)
 
 is_le : (a b : ℕ) → a ≤ b → nat_le a b ≡ true
 is_le a b h = grind (arith, nat_tests)
-
-is_lt : (a b : ℕ) → a < b → nat_lt a b ≡ true
-is_lt a b h = grind (arith, nat_tests)
-
-same_number : (n k : ℕ) → nat_eq n k ≡ true → n ≡ k
-same_number n k e = elim (eqb_tells n k) [ inl same ↦ same.1 | inr other ↦ absurd (let f = other.0 in cc) ]
 
 number_is : (n k : ℕ) → n ≡ k → nat_eq n k ≡ true
 number_is n k e = elim (eqb_tells n k) [ inl same ↦ same.0 | inr other ↦ absurd (other.1 e) ]
@@ -122,8 +79,8 @@ bits_in_row : (signal low m v n i : ℕ) → some_gives (some_bits signal low m 
 bits_in_row signal low zero v n i h = absurd (none_true h)
 bits_in_row signal low (suc m) v n i h = elim (or_cases (nat_eq n signal && (nat_le low i && nat_lt i (low + suc m))) false h) [
   | inl here ↦
-      let place = and_right (nat_eq n signal) (nat_le low i && nat_lt i (low + suc m)) here in
-      (same_number n signal (and_left (nat_eq n signal) (nat_le low i && nat_lt i (low + suc m)) here), le_is low i (and_left (nat_le low i) (nat_lt i (low + suc m)) place), lt_is i (low + suc m) (and_right (nat_le low i) (nat_lt i (low + suc m)) place))
+      let place = and-right (nat_eq n signal) (nat_le low i && nat_lt i (low + suc m)) here in
+      (exact_unsigned_eq n signal (and-left (nat_eq n signal) (nat_le low i && nat_lt i (low + suc m)) here), le_is low i (and-left (nat_le low i) (nat_lt i (low + suc m)) place), lt_is i (low + suc m) (and-right (nat_le low i) (nat_lt i (low + suc m)) place))
   | inr none ↦ absurd (none_true none)
 ]
 
@@ -132,11 +89,11 @@ clipped_in x (pos at) size v n i h =
     let row = bits_in_row x.number at (min size (x.width - at)) v n i h in
     let from = row.1 in
     let below = row.2 in
-    (row.0, omega (arith, from, below), and_both (nat_le at i) (nat_lt i (at + size)) (is_le at i from) (is_lt i (at + size) (omega (arith, from, below))))
+    (row.0, omega (arith, from, below), and_from (nat_le at i) (nat_lt i (at + size)) (is_le at i from) (below_is i (at + size) (omega (arith, from, below))))
 clipped_in x (negsuc k) size v n i h =
     let row = bits_in_row x.number 0 (min (size - (k + 1)) x.width) (v / 2 ^ (k + 1)) n i h in
     let below = row.2 in
-    (row.0, omega (arith, below), is_lt (i + (k + 1)) size (omega (arith, below)))
+    (row.0, omega (arith, below), below_is (i + (k + 1)) size (omega (arith, below)))
 
 -- the bit is one of a window, and of one of several
 record InWindow (w : Window) (n i : ℕ) : Type 0 where
@@ -171,10 +128,6 @@ in_append (w ∷ ws) us n i h = elim h [
   | inr later ↦ elim (in_append ws us n i later) [ inl a ↦ inl (inr a) | inr b ↦ inr b ]
 ]
 
-empty_is : (xs : List Fault) → is_empty xs ≡ true → xs ≡ []
-empty_is [] e = refl
-empty_is (x ∷ xs) e = absurd cc
-
 -- a constant place
 constant_index : (names : Names) (phase : ℕ) (store : Store) (i : Expr) (g : Lcg) → is_empty (sense names i).signals ≡ true → (index_drawn names phase store i g).0 ≡ index_of (λ m. 0) (sense names i)
 constant_index names phase store i g fixed =
@@ -187,15 +140,12 @@ fixed_base names phase store x (Bit at i) g fixed = constant_index names phase s
 fixed_base names phase store x (Range at msb lsb) g fixed = refl
 fixed_base names phase store x (Indexed at base count) g fixed = constant_index names phase store base g fixed
 
-same_vector : (a b : Vector) → Some a ≡ Some b → a ≡ b
-same_vector a b e = cc
-
 named_bit : (d : Option Decl) (x : Vector) (n i : ℕ) → vector_of d ≡ Some x → n ≡ x.number → i < x.width → name_bits d n i ≡ true
 named_bit (Some (Signal width low is_signed number)) x n i is at below =
     let same : record { number = number; width = width; low = low } ≡ x = same_vector (record { number = number; width = width; low = low }) x is in
     let number_same : number ≡ x.number = ap (λ (y : Vector). y.number) same in
     let width_same : width ≡ x.width = ap (λ (y : Vector). y.width) same in
-    and_both (nat_eq n number) (nat_lt i width) (number_is n number (at ∙ sym number_same)) (is_lt i width (omega (arith, below, width_same)))
+    and_from (nat_eq n number) (nat_lt i width) (number_is n number (at ∙ sym number_same)) (below_is i width (omega (arith, below, width_same)))
 named_bit (Some (Constant value low is_signed)) x n i is at below = absurd cc
 named_bit None x n i is at below = absurd cc
 
@@ -203,14 +153,14 @@ part_write : (names : Names) (phase : ℕ) (store : Store) (p : Part) (g : Lcg) 
 part_write names phase store p g n i None is h = absurd h
 part_write names phase store p g n i (Some x) is h = elim h [
   | inr none ↦ absurd none
-  | inl here ↦ elim (tells (is_fixed names p.select)) [
+  | inl here ↦ elim (cases_Bool (is_fixed names p.select)) [
     | inl fixed ↦
         let base = fixed_base names phase store x p.select g fixed in
         let size : ℕ = select_width names x p.select in
         let among : is_among (select_base names (λ m. 0) x p.select -ℤ pos x.low) size i ≡ true = subst (λ (z : ℤ). is_among (z -ℤ pos x.low) size i ≡ true) base here.among in
-        let there : stands_in (places names (λ m. 0) x p.select) i ≡ true = stands x (select_base names (λ m. 0) x p.select) size i ∙ and_both (nat_lt i x.width) (is_among (select_base names (λ m. 0) x p.select -ℤ pos x.low) size i) (is_lt i x.width here.inside) among in
-        inl (and_both (nat_eq n x.number) (is_fixed names p.select && stands_in (places names (λ m. 0) x p.select) i) (number_is n x.number here.number) (and_both (is_fixed names p.select) (stands_in (places names (λ m. 0) x p.select) i) fixed there))
-    | inr open_ ↦ inr (and_both (not (is_fixed names p.select)) (name_bits (names p.name.name) n i) (ap not open_) (named_bit (names p.name.name) x n i is here.number here.inside))
+        let there : stands_in (places names (λ m. 0) x p.select) i ≡ true = stands x (select_base names (λ m. 0) x p.select) size i ∙ and_from (nat_lt i x.width) (is_among (select_base names (λ m. 0) x p.select -ℤ pos x.low) size i) (below_is i x.width here.inside) among in
+        inl (and_from (nat_eq n x.number) (is_fixed names p.select && stands_in (places names (λ m. 0) x p.select) i) (number_is n x.number here.number) (and_from (is_fixed names p.select) (stands_in (places names (λ m. 0) x p.select) i) fixed there))
+    | inr open_ ↦ inr (and_from (not (is_fixed names p.select)) (name_bits (names p.name.name) n i) (ap not open_) (named_bit (names p.name.name) x n i is here.number here.inside))
   ]
 ]
 

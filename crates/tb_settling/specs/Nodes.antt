@@ -16,6 +16,21 @@ use Rattle.tb_nets.specs.declared.node.NetNode.{NetNode}
 use Rattle.tb_nets.specs.declared.node.NetNode.TheVariants.{Assign, Design}
 use Rattle.tb_settling.specs.Settling.{assign_updates, values_at, whole_updates}
 
+-- the signals of ports are as wide as these, and are among those that there are
+pub record PortsFit (widths numbers : List ℕ) (ports : List (List Bit)) : Type 0 where
+  pub widths_are : map (slice_index widths) numbers ≡ map length ports
+  pub known : All (λ k. k < length widths) numbers
+
+-- values of signals, of which each has 1 to 128 bits
+pub record IsStore (names : Names) (widths store : List ℕ) : Type 0 where
+  pub long : length store ≡ length widths
+  pub some : (n : ℕ) → n < length widths → 1 ≤ slice_index widths n
+  pub most : (n : ℕ) → slice_index widths n ≤ 128
+  pub within : AreWithin names (λ n. slice_index store n)
+  pub narrow : (n : ℕ) → slice_index store n < 2 ^ 128
+
+-- For proofs alone.
+
 -- The names that expressions see, the signals at the design's ports, the phase, the design and its registers.
 pub record Situation : Type 0 where
   pub names : Names
@@ -27,11 +42,6 @@ pub record Situation : Type 0 where
 
 abbrev pub situation : Names → List ℕ → List ℕ → ℕ → Simulated → Situation
 situation names inputs outputs phase sim = record { names = names; inputs = inputs; outputs = outputs; phase = phase; netlist = sim.plan.raw; registers = sim.registers }
-
--- the signals of ports are as wide as these, and are among those that there are
-pub record PortsFit (widths numbers : List ℕ) (ports : List (List Bit)) : Type 0 where
-  pub widths_are : map (slice_index widths) numbers ≡ map length ports
-  pub known : All (λ k. k < length widths) numbers
 
 -- what a signal gets that stands for a port
 abbrev pub whole_update : List ℕ → List (List Bit) → List ℕ → ℕ → Update
@@ -61,14 +71,6 @@ IsCycleOf s values store Design = IsCycle (plain values) values s.netlist (value
 pub record HasSettled (s : Situation) (values : Values) (store : List ℕ) (node : NetNode) : Type 0 where
   pub cycle : IsCycleOf s values store node
   pub holds : Hold store (node_updates s values store node)
-
--- values of signals, of which each has 1 to 128 bits
-pub record IsStore (names : Names) (widths store : List ℕ) : Type 0 where
-  pub long : length store ≡ length widths
-  pub some : (n : ℕ) → n < length widths → 1 ≤ slice_index widths n
-  pub most : (n : ℕ) → slice_index widths n ≤ 128
-  pub within : AreWithin names (λ n. slice_index store n)
-  pub narrow : (n : ℕ) → slice_index store n < 2 ^ 128
 
 -- The nodes at these places have settled, and what they do not give a value is as it was.
 pub record HaveSettled (s : Situation) (nodes : List NetNode) (places : List ℕ) (values : Values) (before store : List ℕ) : Type 0 where

@@ -38,9 +38,6 @@ stands signals (Some (d.Signal width low is_signed k)) h = named signals k width
 stands signals (Some (d.Constant value low is_signed)) h = tt
 stands signals None h = tt
 
-pub signals_stand : (signals : List Signal) (names : Names) → ((name : List ℕ) → NamesSignal signals (names name)) → HasSignals names (map (λ s. s.bits.width) signals)
-signals_stand signals names h = λ name. stands signals (names name) (h name)
-
 -- One signal more.
 
 at_front : (xs : List ℕ) (y k : ℕ) → k < length xs → slice_index (xs ++ y ∷ []) k ≡ slice_index xs k
@@ -59,9 +56,6 @@ has_more : (widths : List ℕ) (w : ℕ) (x : Option Decl) → HasSignal widths 
 has_more widths w (Some (d.Signal width low is_signed k)) h = let e = longer widths w in (omega (arith, h.0, e), at_front widths w k h.0 ∙ h.1)
 has_more widths w (Some (d.Constant value low is_signed)) h = tt
 has_more widths w None h = tt
-
-pub signals_more : (names : Names) (widths : List ℕ) (w : ℕ) → HasSignals names widths → HasSignals names (widths ++ w ∷ [])
-signals_more names widths w h = λ name. has_more widths w (names name) (h name)
 
 chosen : (widths : List ℕ) (b : Bool) (x y : Option Decl) → HasSignal widths x → HasSignal widths y → HasSignal widths (if b then x else y)
 chosen widths true x y h other = h

@@ -1,21 +1,10 @@
 -- How a simulation comes further, and what it comes to.
-use Rattle.std.proofs.Common.{◌≡◌, ℕ, suc, ◌+◌, ◌-◌, ◌<◌, ◌≤◌, inl, inr, true, false, List, [], ◌∷◌, refl, sym, subst, add-one, arith}
-use Rattle.tb_machine.specs.Phases.{Setting, State, Ending, Finish, Limit, IsPhase, ending_of}
-use Rattle.tb_machine.specs.Simulations.{Outcome, outcome, Reaches, IsSimulation, phases_of}
-use Rattle.tb_machine.specs.Laws.{InPieces, OneMore}
+use Rattle.tb_turns.proofs.Common.{◌≡◌, ℕ, suc, ◌+◌, ◌-◌, ◌<◌, ◌≤◌, inl, inr, true, false, List, [], ◌∷◌, refl, sym, subst, arith, Setting, State, Ending, Finish, Limit, Outcome, outcome, Reaches}
+use Rattle.tb_turns.proofs.Common.{IsSimulation, phases_of, InPieces, SimVerdict, IsWord, IsVerdict, IsAt, IsLast, IsRunTo, HasEnded}
 use Rattle.tb_machine.specs.declared.phase_end.PhaseEnd.{PhaseEnd}
 use Rattle.tb_machine.specs.declared.phase_end.PhaseEnd.TheVariants as e
-use Rattle.tb_turns.specs.declared.verdict.SimVerdict.{SimVerdict}
 use Rattle.tb_turns.specs.declared.verdict.SimVerdict.TheVariants as v
-use Rattle.tb_turns.specs.Ends.{finishes, IfGoing}
-use Rattle.tb_turns.specs.Verdicts.{IsWord, IsVerdict}
-use Rattle.tb_turns.specs.Reached.{IsAt, IsLast, IsRunTo, HasEnded}
-
--- the next phase
-pub phase_run : OneMore → (g : Setting) (stands : State → Type 0) (heard : List ℕ → Type 0) (start s t : State) (phases : ℕ) (end : PhaseEnd) → Reaches g phases start s → IsPhase g s (ending_of end) t → IfGoing end (stands t) → heard t.text → IsRunTo g stands heard start (phases + 1) end
-phase_run more g stands heard start s t phases e.Going reached phase there text = record { state = t; reached = rw add-one (more g phases start s t reached phase); run = there; text = text }
-phase_run more g stands heard start s t phases e.Finished reached phase there text = record { before = phases; fewer = omega arith; state = s; reached = reached; after = t; phase = phase; text = text }
-phase_run more g stands heard start s t phases e.TooLong reached phase there text = record { before = phases; fewer = omega arith; state = s; reached = reached; after = t; phase = phase; text = text }
+use Rattle.tb_turns.specs.Ends.{finishes}
 
 -- a last phase within fewer phases is one within more
 pub last_within : (g : Setting) (heard : List ℕ → Type 0) (start : State) (few many : ℕ) (ending : Ending) → few ≤ many → IsLast g heard start few ending → IsLast g heard start many ending

@@ -1,2 +1,3 @@
+mod Common
 pub mod Endings
 pub mod Words

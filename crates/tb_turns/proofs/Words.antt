@@ -1,15 +1,11 @@
 -- A simulation has one word.
-use Rattle.std.proofs.Common.{◌≡◌, ℕ, true, false, List, refl, sym, ◌∙◌, subst}
-use Rattle.tb_machine.specs.Simulations.{Outcome, phases_of}
-use Rattle.tb_machine.specs.Laws.{OneOutcome}
-use Rattle.tb_turns.specs.declared.verdict.SimVerdict.{SimVerdict}
+use Rattle.tb_turns.proofs.Common.{◌≡◌, ℕ, true, false, List, refl, sym, ◌∙◌, subst, Outcome, phases_of, OneOutcome, SimVerdict, IsWord, OneVerdict}
 use Rattle.tb_turns.specs.declared.verdict.SimVerdict.TheVariants as v
-use Rattle.tb_turns.specs.Verdicts.{IsWord, OneVerdict}
 
 true_is_not_false : true ≡ false → ⊥
 true_is_not_false h = cc
 
-one_word : (o : Outcome) (pass fail : List ℕ) (a b : SimVerdict) → IsWord o pass fail a → IsWord o pass fail b → a ≡ b
+pub one_word : (o : Outcome) (pass fail : List ℕ) (a b : SimVerdict) → IsWord o pass fail a → IsWord o pass fail b → a ≡ b
 one_word o pass fail v.Pass v.Pass x y = refl
 one_word o pass fail v.Pass v.Fail x y = absurd (y.1 x.1)
 one_word o pass fail v.Pass v.Hang x y = absurd (true_is_not_false (sym x.0 ∙ y))

@@ -18,22 +18,6 @@ pub record IsOpen (is_going : Type 0) (counted phases limit : ℕ) : Type 0 wher
   pub counted_is : counted ≡ phases
   pub more : phases < phases_of limit
 
--- Fewer phases than so many went on, and the next one was the last, with this ending: what was printed was heard.
-pub record IsLast (g : Setting) (heard : List ℕ → Type 0) (start : State) (phases : ℕ) (ending : Ending) : Type 0 where
-  pub before : ℕ
-  pub fewer : before < phases
-  pub state : State
-  pub reached : Reaches g before start state
-  pub after : State
-  pub phase : IsPhase g state ending after
-  pub text : heard after.text
-
--- how a simulation has come so many phases on, or ended before
-abbrev pub IsRunTo : Setting → (State → Type 0) → (List ℕ → Type 0) → State → ℕ → PhaseEnd → Type 0
-IsRunTo g stands heard start phases e.Going = IsAt g stands heard start phases
-IsRunTo g stands heard start phases e.Finished = IsLast g heard start phases Finish
-IsRunTo g stands heard start phases e.TooLong = IsLast g heard start phases Limit
-
 -- the phases up to the end of so many cycles more: phase 0 goes before the first cycle
 abbrev pub phases_after : ℕ → ℕ → ℕ
 phases_after phases cycles = max phases 1 + 2 * cycles
@@ -52,3 +36,21 @@ pub record HasEnded (g : Setting) (start : State) (phases : ℕ) : Type 0 where
 -- `$finish` or a limit is met within so many phases
 abbrev pub MeetsEnd : Setting → State → ℕ → ℕ → Type 0
 MeetsEnd g start limit phases = HasEnded g start phases ⊎ (phases_of limit ≤ phases)
+
+-- For proofs alone.
+
+-- Fewer phases than so many went on, and the next one was the last, with this ending: what was printed was heard.
+pub record IsLast (g : Setting) (heard : List ℕ → Type 0) (start : State) (phases : ℕ) (ending : Ending) : Type 0 where
+  pub before : ℕ
+  pub fewer : before < phases
+  pub state : State
+  pub reached : Reaches g before start state
+  pub after : State
+  pub phase : IsPhase g state ending after
+  pub text : heard after.text
+
+-- how a simulation has come so many phases on, or ended before
+abbrev pub IsRunTo : Setting → (State → Type 0) → (List ℕ → Type 0) → State → ℕ → PhaseEnd → Type 0
+IsRunTo g stands heard start phases e.Going = IsAt g stands heard start phases
+IsRunTo g stands heard start phases e.Finished = IsLast g heard start phases Finish
+IsRunTo g stands heard start phases e.TooLong = IsLast g heard start phases Limit

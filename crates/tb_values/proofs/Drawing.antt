@@ -1,22 +1,12 @@
 -- An expression in which numbers stand for what was drawn says what the expression says in that evaluation.
-use Rattle.std.proofs.Common.{◌≡◌, ◌==◌, ℕ, ◌+◌, ◌<◌, false, List, [], ◌∷◌, ◌++◌, map, drop, length, get_or, ◌≤◌, refl, sym, ap, ◌∙◌, append_assoc, append-nil, Option, None, Some}
+use Rattle.tb_values.proofs.Common.{◌≡◌, ◌==◌, ℕ, ◌+◌, ◌<◌, false, List, [], ◌∷◌, ◌++◌, map, drop, length, get_or, ◌≤◌, refl, sym, ap, ◌∙◌, append_assoc, append-nil, Lcg, Span, Number, Identifier}
+use Rattle.tb_values.proofs.Common.{UnaryOperator, Expr, Function, Signed, Unsigned, Clog2, Random, Time, function_of, Names, Sense, sense, senses, step, drawn, all_drawn, call_drawn, is_changing}
+use Rattle.std.proofs.Common.{Option, None, Some}
 use Rattle.std.proofs.lemmas.List.{map-append, drop_more, drop_all}
-use Rattle.rand_pcg.specs.Lcg.{Lcg}
-use Rattle.mcy_base.specs.declared.span.Span.{Span}
-use Rattle.vlog_syntax.specs.declared.identifier.Number.{Number}
-use Rattle.vlog_syntax.specs.declared.identifier.Identifier.{Identifier}
-use Rattle.vlog_syntax.specs.declared.operator.UnaryOperator.{UnaryOperator}
 use Rattle.vlog_syntax.specs.declared.operator.BinaryOperator.{BinaryOperator}
-use Rattle.vlog_syntax.specs.declared.expr.Expr.{Expr}
 use Rattle.vlog_syntax.specs.declared.expr.Expr.TheOpen as e
 use Rattle.vlog_syntax.specs.declared.expr.Expr.TheVariants as v
-use Rattle.vlog_meaning.specs.declared.function.Function.{Function}
-use Rattle.vlog_meaning.specs.declared.function.Function.TheVariants.{Signed, Unsigned, Clog2, Random, Time}
-use Rattle.vlog_meaning.specs.Functions.{function_of}
-use Rattle.vlog_meaning.specs.Scopes.{Names}
-use Rattle.vlog_meaning.specs.Senses.{Sense, sense, senses, step}
 use Rattle.vlog_meaning.proofs.Steps as s
-use Rattle.tb_values.specs.Draws.{drawn, all_drawn, call_drawn, is_changing}
 use Rattle.tb_values.proofs.Variants as d
 
 pub number_says : (names : Names) (phase : ℕ) (whole made : Expr) (n : Number) (g : Lcg) → whole ≡ v.Number n → made ≡ v.Number n → (sense names made, g) ≡ drawn names phase whole g

@@ -1,11 +1,6 @@
 -- What is drawn can be evaluated where the expression can, and has its value.
-use Rattle.std.proofs.Common.{◌≡◌, ℕ, false, sym, ap, ◌∙◌, subst}
-use Rattle.rand_pcg.specs.Lcg.{Lcg}
-use Rattle.vlog_syntax.specs.declared.expr.Expr.{Expr}
+use Rattle.tb_values.proofs.Common.{◌≡◌, ℕ, false, sym, ap, ◌∙◌, subst, Lcg, Expr, Names, Store, Sense, sense, IsWhole, IsContext, drawn, changes}
 use Rattle.vlog_meaning.specs.declared.shapes.Shape.{Shape}
-use Rattle.vlog_meaning.specs.Scopes.{Names, Store}
-use Rattle.vlog_meaning.specs.Senses.{Sense, sense, IsWhole, IsContext}
-use Rattle.tb_values.specs.Draws.{drawn, changes}
 use Rattle.tb_values.specs.Values.{evaluated}
 use Rattle.tb_values.proofs.Staying.{stays}
 use Rattle.tb_values.proofs.Keeping.{shapes_stay}

@@ -1,23 +1,13 @@
 -- What has a shape keeps it in each evaluation.
-use Rattle.std.proofs.Common.{◌≡◌, ℕ, List, [], ◌∷◌, ◌++◌, map, refl, ap, subst}
-use Rattle.std.specs.Prelude.{Option, None, Some}
-use Rattle.rand_pcg.specs.Lcg.{Lcg}
+use Rattle.tb_values.proofs.Common.{◌≡◌, ℕ, List, [], ◌∷◌, ◌++◌, map, refl, ap, subst, Option, None, Some, Lcg, Expr, Expr-F, roll-Expr, fold-roll-Expr, ind-Expr, map-Expr, Identifier, Function}
+use Rattle.tb_values.proofs.Common.{Signed, Unsigned, Clog2, Random, Time, function_of, Names, Sense, sense, senses, step, name_signals, name_faults, all_signals, all_faults, all_reads, all_features}
+use Rattle.tb_values.proofs.Common.{total_width, constant_faults, call_shape, call_value, call_signals, call_faults, call_zeros, Drawn, drawn, drawn_step, all_drawn, call_drawn, number_sense}
+use Rattle.tb_values.proofs.Common.{random_shape, time_shape, ShapesStay}
 use Rattle.rand_pcg.specs.Pcg.{pcg32}
-use Rattle.vlog_syntax.specs.declared.expr.Expr.{Expr}
 use Rattle.vlog_syntax.specs.declared.expr.Expr.TheOpen as e
-use Rattle.vlog_syntax.specs.declared.expr.Expr.TheOpen.{Expr-F}
-use Rattle.vlog_syntax.specs.declared.expr.Expr.TheViews.{roll-Expr}
-use Rattle.vlog_syntax.specs.declared.expr.Expr.TheFolds.{fold-roll-Expr, ind-Expr, map-Expr}
-use Rattle.vlog_syntax.specs.declared.identifier.Identifier.{Identifier}
 use Rattle.vlog_meaning.specs.declared.fault.Fault.{Fault}
-use Rattle.vlog_meaning.specs.declared.function.Function.{Function}
-use Rattle.vlog_meaning.specs.declared.function.Function.TheVariants.{Signed, Unsigned, Clog2, Random, Time}
-use Rattle.vlog_meaning.specs.Functions.{function_of}
-use Rattle.vlog_meaning.specs.Scopes.{Names}
-use Rattle.vlog_meaning.specs.Senses.{Sense, sense, senses, step, name_signals, name_faults, all_signals, all_faults, all_reads, all_features, total_width, constant_faults, call_shape, call_value, call_signals, call_faults, call_zeros}
 use Rattle.vlog_meaning.proofs.Blanks.{left_nil, right_nil, these_nil, those_nil}
-use Rattle.tb_values.specs.Draws.{Drawn, drawn, drawn_step, all_drawn, call_drawn, number_sense, random_shape, time_shape}
-use Rattle.tb_values.specs.Laws.{ShapesStay}
+use Rattle.vlog_meaning.proofs.Same.{no_signals}
 
 -- what a part says in an evaluation, and what it says in a design
 record Keeps (s d : Sense) : Type 0 where
@@ -32,10 +22,6 @@ record KeepAll (ss ds : List Sense) : Type 0 where
 
 both_nil : (xs ys : List Fault) → xs ≡ [] → ys ≡ [] → xs ++ ys ≡ []
 both_nil xs ys e f = rw (e, f) refl
-
--- a constant reads no signal
-quiet_constant : (a : Sense) → constant_faults a ≡ [] → a.signals ≡ []
-quiet_constant a e = left_nil _ a.faults (these_nil _ _ e)
 
 abbrev KeptAt : Names → ℕ → Expr → Type 0
 KeptAt names phase x = (g : Lcg) → Keeps (sense names x) (drawn names phase x g).0
@@ -106,7 +92,7 @@ call_keeps names phase n (Some Unsigned) (w ∷ x ∷ more) g =
 call_keeps names phase n (Some Clog2) [] g = record { quiet = λ q. refl; whole = λ f. absurd cc; shape = λ f. refl }
 call_keeps names phase n (Some Clog2) (w ∷ []) g =
     let k = w.1 g in
-    record { quiet = λ q. rw (k.quiet (left_nil (sense names w.0).signals [] q)) refl; whole = λ f. rw (k.quiet (quiet_constant (sense names w.0) f)) f; shape = λ f. refl }
+    record { quiet = λ q. rw (k.quiet (left_nil (sense names w.0).signals [] q)) refl; whole = λ f. rw (k.quiet (no_signals (sense names w.0) f)) f; shape = λ f. refl }
 call_keeps names phase n (Some Clog2) (w ∷ x ∷ more) g =
     let all = all_keep names phase (w ∷ x ∷ more) g in
     record { quiet = λ q. ap (λ (ss : List Sense). call_sense n (Some Clog2) ss) (all.quiet q); whole = λ f. absurd cc; shape = λ f. refl }
@@ -130,8 +116,8 @@ layer names phase (e.PartSelect n s i j) g =
     let a = sense names i.0 in
     let b = sense names j.0 in
     let constants = λ (f : (step names (e.PartSelect n s a b)).faults ≡ []). these_nil _ _ (right_nil (name_faults n.span (names n.name)) _ f) in
-    let here = λ (f : (step names (e.PartSelect n s a b)).faults ≡ []). k.quiet (quiet_constant a (left_nil _ (constant_faults b) (constants f))) in
-    let there = λ (f : (step names (e.PartSelect n s a b)).faults ≡ []). l.quiet (quiet_constant b (right_nil (constant_faults a) _ (constants f))) in
+    let here = λ (f : (step names (e.PartSelect n s a b)).faults ≡ []). k.quiet (no_signals a (left_nil _ (constant_faults b) (constants f))) in
+    let there = λ (f : (step names (e.PartSelect n s a b)).faults ≡ []). l.quiet (no_signals b (right_nil (constant_faults a) _ (constants f))) in
     record {
       quiet = λ q. let rest = right_nil (name_signals n.span (names n.name)) (a.signals ++ b.signals) q in rw (k.quiet (left_nil a.signals b.signals rest), l.quiet (right_nil a.signals b.signals rest)) refl;
       whole = λ f. rw (here f, there f) f;
@@ -143,7 +129,7 @@ layer names phase (e.IndexedPartSelect n s i j) g =
     let a = sense names i.0 in
     let b = sense names j.0 in
     let rest = λ (f : (step names (e.IndexedPartSelect n s a b)).faults ≡ []). right_nil (name_faults n.span (names n.name)) _ f in
-    let there = λ (f : (step names (e.IndexedPartSelect n s a b)).faults ≡ []). l.quiet (quiet_constant b (these_nil _ _ (right_nil a.faults _ (rest f)))) in
+    let there = λ (f : (step names (e.IndexedPartSelect n s a b)).faults ≡ []). l.quiet (no_signals b (these_nil _ _ (right_nil a.faults _ (rest f)))) in
     record {
       quiet = λ q. let after = right_nil (name_signals n.span (names n.name)) (a.signals ++ b.signals) q in rw (k.quiet (left_nil a.signals b.signals after), l.quiet (right_nil a.signals b.signals after)) refl;
       whole = λ f. rw (there f) (both_nil _ _ (left_nil (name_faults n.span (names n.name)) _ f) (both_nil _ _ (k.whole (left_nil a.faults _ (rest f))) (right_nil a.faults _ (rest f))));
@@ -191,7 +177,7 @@ layer names phase (e.MultipleConcatenation s i ps) g =
     let ss = senses names (map (λ (w : Proved names phase). w.0) ps) in
     let front = λ (f : (step names (e.MultipleConcatenation s a ss)).faults ≡ []). these_nil _ _ f in
     let counts = λ (f : (step names (e.MultipleConcatenation s a ss)).faults ≡ []). left_nil _ (all_faults ss) (front f) in
-    let here = λ (f : (step names (e.MultipleConcatenation s a ss)).faults ≡ []). k.quiet (quiet_constant a (these_nil _ _ (counts f))) in
+    let here = λ (f : (step names (e.MultipleConcatenation s a ss)).faults ≡ []). k.quiet (no_signals a (these_nil _ _ (counts f))) in
     let parts = λ (f : (step names (e.MultipleConcatenation s a ss)).faults ≡ []). right_nil _ (all_faults ss) (front f) in
     record {
       quiet = λ q. rw (k.quiet (left_nil a.signals (all_signals ss) q), all.quiet (right_nil a.signals (all_signals ss) q)) refl;

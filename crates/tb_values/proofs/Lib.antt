@@ -1,5 +1,5 @@
+mod Common
 pub mod Lists
-pub mod Literals
 pub mod Variants
 pub mod Drawing
 pub mod Staying

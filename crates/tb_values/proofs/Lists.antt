@@ -1,6 +1,5 @@
 -- Whether one of a list is so, one item more at a time.
-use Rattle.std.proofs.Common.{◌≡◌, zero, suc, ℕ, ◌<◌, Bool, true, false, ◌||◌, List, [], ◌∷◌, map, refl, ap, ◌∙◌, arith, length, get_or, take}
-use Rattle.tb_values.specs.Draws.{any_of}
+use Rattle.tb_values.proofs.Common.{◌≡◌, zero, suc, ℕ, ◌<◌, Bool, true, false, ◌||◌, List, [], ◌∷◌, map, refl, ap, ◌∙◌, arith, length, get_or, take, any_of}
 
 first : (r b : Bool) → r ≡ b → (r || false) ≡ (b || false)
 first r b e = ap (λ (z : Bool). z || false) e

@@ -1,20 +1,8 @@
 -- What holds no call that changes says in each evaluation what it says in a design.
-use Rattle.std.proofs.Common.{◌≡◌, ℕ, Bool, false, ◌||◌, List, [], ◌∷◌, map, refl, sym, ap, ◌∙◌, subst}
-use Rattle.std.specs.Prelude.{Option, None, Some}
-use Rattle.rand_pcg.specs.Lcg.{Lcg}
-use Rattle.vlog_syntax.specs.declared.expr.Expr.{Expr}
+use Rattle.tb_values.proofs.Common.{◌≡◌, ℕ, Bool, false, ◌||◌, List, [], ◌∷◌, map, refl, sym, ap, ◌∙◌, subst, Option, None, Some, Lcg, Expr, Expr-F, roll-Expr, fold-roll-Expr, ind-Expr, map-Expr}
+use Rattle.tb_values.proofs.Common.{Identifier, Function, Signed, Unsigned, Clog2, Random, Time, function_of, Names, Sense, sense, senses, step, Drawn, drawn, drawn_step, all_drawn, call_drawn}
+use Rattle.tb_values.proofs.Common.{changes, changes_step, any_of, is_changing, OthersStay}
 use Rattle.vlog_syntax.specs.declared.expr.Expr.TheOpen as e
-use Rattle.vlog_syntax.specs.declared.expr.Expr.TheOpen.{Expr-F}
-use Rattle.vlog_syntax.specs.declared.expr.Expr.TheViews.{roll-Expr}
-use Rattle.vlog_syntax.specs.declared.expr.Expr.TheFolds.{fold-roll-Expr, ind-Expr, map-Expr}
-use Rattle.vlog_syntax.specs.declared.identifier.Identifier.{Identifier}
-use Rattle.vlog_meaning.specs.declared.function.Function.{Function}
-use Rattle.vlog_meaning.specs.declared.function.Function.TheVariants.{Signed, Unsigned, Clog2, Random, Time}
-use Rattle.vlog_meaning.specs.Functions.{function_of}
-use Rattle.vlog_meaning.specs.Scopes.{Names}
-use Rattle.vlog_meaning.specs.Senses.{Sense, sense, senses, step}
-use Rattle.tb_values.specs.Draws.{Drawn, drawn, drawn_step, all_drawn, call_drawn, changes, changes_step, any_of, is_changing}
-use Rattle.tb_values.specs.Laws.{OthersStay}
 use Rattle.tb_values.proofs.Lists.{left_false, right_false}
 
 abbrev Stays : Names → ℕ → Expr → Type 0

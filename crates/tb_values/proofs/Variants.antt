@@ -1,17 +1,8 @@
 -- What an expression of each production says in one evaluation, from what its parts say, and whether it changes.
-use Rattle.std.proofs.Common.{◌≡◌, ℕ, List, map, sym, ap, ◌∙◌}
-use Rattle.rand_pcg.specs.Lcg.{Lcg}
-use Rattle.mcy_base.specs.declared.span.Span.{Span}
-use Rattle.vlog_syntax.specs.declared.identifier.Number.{Number}
-use Rattle.vlog_syntax.specs.declared.identifier.Identifier.{Identifier}
-use Rattle.vlog_syntax.specs.declared.operator.UnaryOperator.{UnaryOperator}
+use Rattle.tb_values.proofs.Common.{◌≡◌, ℕ, List, map, sym, ap, ◌∙◌, Lcg, Span, Number, Identifier, UnaryOperator, Expr, fold-roll-Expr, Names, Drawn, drawn_step, drawn}
 use Rattle.vlog_syntax.specs.declared.operator.BinaryOperator.{BinaryOperator}
-use Rattle.vlog_syntax.specs.declared.expr.Expr.{Expr}
 use Rattle.vlog_syntax.specs.declared.expr.Expr.TheOpen as e
 use Rattle.vlog_syntax.specs.declared.expr.Expr.TheVariants as v
-use Rattle.vlog_syntax.specs.declared.expr.Expr.TheFolds.{fold-roll-Expr}
-use Rattle.vlog_meaning.specs.Scopes.{Names}
-use Rattle.tb_values.specs.Draws.{Drawn, drawn_step, drawn}
 
 pub drawn_number : (names : Names) (phase : ℕ) (n : Number) (g : Lcg) → drawn names phase (v.Number n) g ≡ drawn_step names phase (e.Number n) g
 drawn_number names phase n g = ap (λ (x : Expr). drawn names phase x g) (sym (v.rolls-Number n)) ∙ ap (λ (d : Drawn). d g) (fold-roll-Expr Drawn (drawn_step names phase) (e.Number n))

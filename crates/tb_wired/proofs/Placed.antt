@@ -1,13 +1,7 @@
 -- Each node of the nets of items has its place.
-use Rattle.std.proofs.Common.{◌≡◌, zero, suc, ℕ, ◌<◌, true, List, [], ◌∷◌, length, refl, ap, subst, arith}
-use Rattle.std.specs.Prelude.{slice_get}
+use Rattle.tb_wired.proofs.Common.{◌≡◌, zero, suc, ℕ, ◌<◌, true, List, [], ◌∷◌, length, refl, ap, subst, arith, slice_get, BenchItem, NetNode, Wiring, reads_of, ReadsNode, nodes_of, places_of}
 use Rattle.net_order.specs.Orders.{ReadsThrough, IsOnLoop, IsFirst}
-use Rattle.tb_items.specs.declared.item.BenchItem.{BenchItem}
 use Rattle.tb_items.specs.declared.item.BenchItem.TheVariants as b
-use Rattle.tb_nets.specs.declared.node.NetNode.{NetNode}
-use Rattle.tb_nets.specs.Nets.{Wiring, reads_of, ReadsNode}
-use Rattle.tb_contents.specs.Nets.{nodes_of}
-use Rattle.tb_wired.specs.Wired.{places_of}
 
 as_many : (items : List BenchItem) → length (nodes_of items) ≡ length (places_of items)
 as_many [] = refl

@@ -1,34 +1,21 @@
 -- Assignments in which nothing is wrong can be carried out.
-use Rattle.std.proofs.Common.{◌≡◌, zero, suc, ℕ, true, ◌&&◌, List, [], ◌∷◌, ◌++◌, map, arith, ap, subst}
-use Rattle.std.specs.Prelude.{None, Some, slice_get}
-use Rattle.std.specs.List.{All, flat_map}
+use Rattle.tb_wired.proofs.Common.{◌≡◌, zero, suc, ℕ, true, ◌&&◌, List, [], ◌∷◌, ◌++◌, map, arith, ap, subst, None, Some, slice_get, All, flat_map, Assignment, Names, same_form, divisions, BenchFault}
+use Rattle.tb_wired.proofs.Common.{Wrong, NetNode, Assign, Design, IsSided}
 use Rattle.std.proofs.lemmas.List.Elements.{All-weaker}
 use Rattle.vlog_syntax.specs.declared.expr.Expr.{Expr}
-use Rattle.vlog_syntax.specs.declared.stmt.Assignment.{Assignment}
-use Rattle.vlog_meaning.specs.declared.fault.Cause.TheVariants.{SystemFunction}
 use Rattle.vlog_meaning.specs.declared.fault.Fault.{Fault}
-use Rattle.vlog_meaning.specs.Scopes.{Names}
-use Rattle.vlog_meaning.specs.Senses.{sense, assigned, fault, is_empty}
+use Rattle.vlog_meaning.specs.Senses.{sense, assigned, is_empty}
 use Rattle.vlog_meaning.proofs.Blanks.{left_nil, right_nil}
 use Rattle.vlog_effects.specs.Expressions.{width_of}
 use Rattle.vlog_effects.specs.LeftSides.{parts_of}
-use Rattle.elab_proc.specs.Refusals.{same_form, divisions}
-use Rattle.tb_faults.specs.declared.fault.BenchFault.{BenchFault}
-use Rattle.tb_faults.specs.declared.fault.BenchFault.TheVariants.{Wrong}
 use Rattle.tb_assigns.specs.Checks.{has_shape, all_signals, can_assign}
-use Rattle.tb_checks.specs.Expressions.{wrong}
 use Rattle.tb_checks.specs.Lefts.{part_faults}
-use Rattle.tb_checks.specs.Nets.{randoms, net_wrong, indices_faults, net_faults, assign_faults}
+use Rattle.tb_checks.specs.Nets.{net_wrong, indices_faults, net_faults, assign_faults}
 use Rattle.tb_known.proofs.Nothing.{none_before, and_true}
-use Rattle.tb_known.proofs.Expressions.{wrong_passes, signals_pass}
-use Rattle.tb_nets.specs.declared.node.NetNode.{NetNode}
-use Rattle.tb_nets.specs.declared.node.NetNode.TheVariants.{Assign, Design}
-use Rattle.tb_nets.specs.Nets.{IsSided}
+use Rattle.tb_known.proofs.Expressions.{signals_pass}
 use Rattle.tb_settling.proofs.Sides.{sides_fit}
 use Rattle.tb_apart.specs.Laws.{IsClean}
-
-net_passes : (names : Names) (x : Expr) → net_wrong names x ≡ [] → has_shape names x ≡ true
-net_passes names x e = wrong_passes names x (left_nil (wrong names x) (map (fault SystemFunction) (randoms x)) e)
+use Rattle.tb_known.proofs.Assigns.{net_passes}
 
 clean_can : (names : Names) (a : Assignment) → assign_faults names a.left a.value ≡ [] → can_assign names a ≡ true
 clean_can names a e =

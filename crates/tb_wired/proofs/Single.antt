@@ -1,23 +1,15 @@
 -- The design stands among the nets of items without a fault once.
-use Rattle.std.proofs.Common.{◌≡◌, ◌⊎◌, inl, inr, zero, suc, ℕ, ◌<◌, ◌≤◌, Bool, true, false, ◌||◌, List, [], ◌∷◌, ◌++◌, take, length, get_or, refl, sym, ap, ◌∙◌, subst, arith}
-use Rattle.std.specs.Prelude.{Some, slice_get}
-use Rattle.std.proofs.lemmas.Grind.{flat_map-append}
+use Rattle.tb_wired.proofs.Common.{◌≡◌, ◌⊎◌, inl, inr, zero, suc, ℕ, ◌<◌, ◌≤◌, Bool, true, false, ◌||◌, List, [], ◌∷◌, ◌++◌, take, length, get_or, refl, sym, ap, ◌∙◌, subst, arith, Some, slice_get}
+use Rattle.tb_wired.proofs.Common.{Assignment, BenchFault, Unsupported, BenchItem, NetNode, Assign, Design, item_nodes, nodes_of, left_nil, within, get_itself, nodes_more}
 use Rattle.std.proofs.lemmas.List.{append-nil, take_all}
 use Rattle.mcy_base.specs.declared.span.Span.{Span}
 use Rattle.vlog_syntax.specs.declared.feature.Feature.TheVariants.{Helper}
-use Rattle.vlog_syntax.specs.declared.stmt.Assignment.{Assignment}
-use Rattle.tb_faults.specs.declared.fault.BenchFault.{BenchFault}
-use Rattle.tb_faults.specs.declared.fault.BenchFault.TheVariants.{Unsupported}
-use Rattle.tb_items.specs.declared.item.BenchItem.{BenchItem}
 use Rattle.tb_items.specs.declared.item.BenchItem.TheVariants as b
-use Rattle.tb_nets.specs.declared.node.NetNode.{NetNode}
-use Rattle.tb_nets.specs.declared.node.NetNode.TheVariants.{Assign, Design}
-use Rattle.tb_contents.specs.Nets.{item_nodes, nodes_of}
 use Rattle.tb_writers.specs.Writers.{writer_faults}
 use Rattle.tb_refusals.specs.Refusals.{Context, written, second, is_design, some_item, own_item_faults, item_faults, AreFaultless}
 use Rattle.tb_refusals.proofs.Firsts.{take_more}
 use Rattle.tb_apart.proofs.Listed.{one_of}
-use Rattle.tb_apart.proofs.Apart.{left_nil, within, get_itself}
+use Rattle.elab_proc.proofs.CaseLemmas.{or_again, or_false}
 
 abbrev pub HasDesign : List NetNode → Type 0
 HasDesign nodes = (k : ℕ) × (slice_get nodes k ≡ Some Design) × ((j : ℕ) → slice_get nodes j ≡ Some Design → j ≡ k)
@@ -35,20 +27,9 @@ Standing before = Tells (some_item is_design before) (nodes_of before)
 
 -- One item more.
 
-nodes_more : (before : List BenchItem) (x : BenchItem) → nodes_of (before ++ x ∷ []) ≡ nodes_of before ++ item_nodes x
-nodes_more before x = flat_map-append item_nodes before (x ∷ []) ∙ ap (λ (l : List NetNode). nodes_of before ++ l) (append-nil (item_nodes x))
-
-or_false : (a : Bool) → a || false ≡ a
-or_false true = refl
-or_false false = refl
-
-or_or : (a b c : Bool) → a || (b || c) ≡ (a || b) || c
-or_or true b c = refl
-or_or false b c = refl
-
 some_more : (before : List BenchItem) (x : BenchItem) → some_item is_design (before ++ x ∷ []) ≡ some_item is_design before || is_design x
 some_more [] x = or_false (is_design x)
-some_more (y ∷ ys) x = ap (λ (c : Bool). is_design y || c) (some_more ys x) ∙ or_or (is_design y) (some_item is_design ys) (is_design x)
+some_more (y ∷ ys) x = ap (λ (c : Bool). is_design y || c) (some_more ys x) ∙ or_again (is_design y) (some_item is_design ys) (is_design x)
 
 put : (before : List BenchItem) (x : BenchItem) (is : Bool) (nodes : List NetNode) → some_item is_design before || is_design x ≡ is → nodes_of before ++ item_nodes x ≡ nodes → Tells is nodes → Standing (before ++ x ∷ [])
 put before x is nodes some_is nodes_are h = subst (λ (c : Bool). Tells c (nodes_of (before ++ x ∷ []))) (sym (some_more before x ∙ some_is)) (subst (Tells is) (sym (nodes_more before x ∙ nodes_are)) h)

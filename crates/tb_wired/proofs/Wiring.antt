@@ -1,18 +1,8 @@
 -- The nets of items without a fault can settle, where none is on a loop.
-use Rattle.std.proofs.Common.{◌≡◌, ℕ, true, List, [], length, sym, subst}
-use Rattle.std.specs.List.{All}
-use Rattle.vlog_meaning.specs.Scopes.{Names}
-use Rattle.elab_proc.specs.Refusals.{AreSized}
-use Rattle.tb_items.specs.declared.item.BenchItem.{BenchItem}
+use Rattle.tb_wired.proofs.Common.{◌≡◌, ℕ, true, List, [], length, sym, subst, All, Names, AreSized, BenchItem, Ready, wiring, AreApart, IsSided, IsNetted, nodes_of, nets_apart, IsFaultless, IsWired}
 use Rattle.tb_nets.specs.declared.nets.Nets.{Nets}
-use Rattle.tb_nets.specs.declared.nets.Netted.TheVariants.{Ready}
-use Rattle.tb_nets.specs.Nets.{wiring, AreApart, IsSided}
-use Rattle.tb_nets.specs.Netted.{IsNetted}
-use Rattle.tb_contents.specs.Nets.{nodes_of}
 use Rattle.tb_refusals.specs.Refusals.{Context, is_design, some_item, AreFaultless}
-use Rattle.tb_apart.proofs.Apart.{nets_apart}
 use Rattle.tb_apart.proofs.Clean.{nets_clean}
-use Rattle.tb_wired.specs.Wired.{IsFaultless, IsWired}
 use Rattle.tb_wired.specs.declared.wired.Wired.TheVariants as wired
 use Rattle.tb_wired.proofs.Sides.{CanAll, all_sided, all_can}
 use Rattle.tb_wired.proofs.Single.{HasDesign, design_once}

@@ -1,44 +1,27 @@
 -- What a part of a left side writes.
-use Rattle.std.proofs.Common.{◌≡◌, ℕ, Bool, true, false, ◌&&◌, ◌||◌, nat_eq, List, [], ◌∷◌, refl, sym, ap, ◌∙◌, subst, arith}
-use Rattle.std.proofs.Math.Path.{fun_ext}
-use Rattle.std.proofs.lemmas.Bool.Decides.{nat_tests}
-use Rattle.std.specs.Prelude.{Option, Some, None, option_to_list}
+use Rattle.tb_writers.proofs.Common.{◌≡◌, ℕ, Bool, true, false, ◌&&◌, nat_eq, List, [], ◌∷◌, refl, sym, ap, ◌∙◌, subst, arith, fun_ext, nat_tests, Option, Some, None, option_to_list, LeftSide, Decl}
+use Rattle.tb_writers.proofs.Common.{Names, Bits, no_bits, either, sense, is_empty, Whole, Part, Vector, vector_of, part_vector, parts_of, places, has_bit, IsPart, fit_part, BenchFault, IsFirst}
+use Rattle.tb_writers.proofs.Common.{is_placed, is_told, whole_name, untold_bits, bits_written, part_writes, some_below, meet_at, Writer, Net, Process, Written, taken, with_bits, with_part}
+use Rattle.tb_writers.proofs.Common.{fault_where, part_faults, mask_bits, and-right}
 use Rattle.mcy_base.specs.declared.span.Span.{Span}
 use Rattle.vlog_syntax.specs.declared.expr.Expr.{Expr}
 use Rattle.vlog_syntax.specs.declared.identifier.Identifier.{Identifier}
-use Rattle.vlog_syntax.specs.declared.left_side.LeftSide.{LeftSide}
 use Rattle.vlog_syntax.specs.declared.left_side.LeftSide.TheVariants as lv
 use Rattle.vlog_meaning.specs.declared.fault.Fault.{Fault}
 use Rattle.vlog_meaning.specs.Answers.{least}
-use Rattle.vlog_meaning.specs.declared.scope.Decl.{Decl}
 use Rattle.vlog_meaning.specs.declared.scope.Decl.TheVariants.{Signal}
-use Rattle.vlog_meaning.specs.Scopes.{Names}
-use Rattle.vlog_meaning.specs.Senses.{Bits, no_bits, either, sense, is_empty}
 use Rattle.vlog_meaning.proofs.Firsts.{least_none}
 use Rattle.vlog_meaning.proofs.Refusals.{least_empty}
 use Rattle.vlog_effects.specs.Latches.{is_fixed, stands_in, part_covers, parts_cover}
-use Rattle.vlog_effects.specs.LeftSides.{Whole, Part, Vector, vector_of, part_vector, parts_of, places}
 use Rattle.vlog_effects.proofs.Folds.{parts-name}
 use Rattle.elab_proc.specs.Refusals.{AreSized, same_form}
-use Rattle.signal_masks.specs.Masks.{has_bit}
 use Rattle.signal_masks.specs.Parts.{AreFit}
-use Rattle.process_latches.specs.Marking.{IsPart}
-use Rattle.process_latches.proofs.Fitting.{fit_part}
-use Rattle.tb_faults.specs.declared.fault.BenchFault.{BenchFault}
-use Rattle.tb_faults.specs.Order.{IsFirst}
 use Rattle.tb_faults.proofs.Firsts.{first_alone}
-use Rattle.tb_writers.specs.Writes.{is_placed, is_told, whole_name, untold_bits, bits_written, part_writes, some_below, meet_at}
-use Rattle.tb_writers.specs.declared.writers.Writer.{Writer}
-use Rattle.tb_writers.specs.declared.writers.Writer.TheVariants.{Net, Process}
-use Rattle.tb_writers.specs.Writers.{Written, taken, with_bits, with_part, fault_where, part_faults}
-use Rattle.tb_writers.specs.Views.{mask_bits}
-
-off : (a : Bool) → (a || false) ≡ a
-off true = refl
-off false = refl
+use Rattle.signal_masks.proofs.Placing.{or_end}
+use Rattle.std.proofs.lemmas.Bool.{and_right}
 
 pub add_none : (b : Bits) → either b no_bits ≡ b
-add_none b = fun_ext (λ n. fun_ext (λ i. off (b n i)))
+add_none b = fun_ext (λ n. fun_ext (λ i. or_end (b n i)))
 
 one_covers : (names : Names) (p : Part) → parts_cover names (p ∷ []) ≡ part_covers names p (part_vector names p)
 one_covers names p = add_none (part_covers names p (part_vector names p))
@@ -46,10 +29,6 @@ one_covers names p = add_none (part_covers names p (part_vector names p))
 no_faults : (fs : List Fault) → is_empty fs ≡ true → fs ≡ []
 no_faults [] e = refl
 no_faults (f ∷ more) e = absurd cc
-
-second_true : (a b : Bool) → (a && b) ≡ true → b ≡ true
-second_true true b e = e
-second_true false b e = absurd cc
 
 -- Tests that look for a first fault.
 
@@ -62,7 +41,7 @@ with_fault (x ∷ more) o f is some = refl
 
 -- a part that can be told has a shape
 pub told_fits : (names : Names) (left : LeftSide) (n : Identifier) (p : Part) (b : Bool) → AreSized names → IsPart left n p → (b && is_empty (sense names (same_form left)).faults) ≡ true → AreFit names (parts_of left)
-told_fits names left n p b sized is e = fit_part names left n p sized is (no_faults (sense names (same_form left)).faults (second_true b _ e))
+told_fits names left n p b sized is e = fit_part names left n p sized is (no_faults (sense names (same_form left)).faults (and-right b _ e))
 
 tells : (names : Names) (left : LeftSide) (n : Identifier) (p : Part) (b : Bool) → IsPart left n p → b ≡ is_placed names p.select → (b && is_empty (sense names (same_form left)).faults) ≡ is_told names p
 tells names left n p b is e = ap (λ (c : Bool). c && is_empty (sense names (same_form left)).faults) e ∙ ap (λ (x : Expr). is_placed names p.select && is_empty (sense names x).faults) is.form
@@ -92,14 +71,10 @@ own_bits names q v bits n i e =
     let here : has_bit bits i ≡ x = e ∙ ap (λ (b : Bool). b && x) (same_number v.number) in
     ap (λ (b : Bool). nat_eq n v.number && b) here
 
-none_and : (a b : Bool) → b ≡ false → (a && b) ≡ false
-none_and true b e = e
-none_and false b e = refl
-
 told_bits : (names : Names) (kind : Writer) (p : Part) (v : Vector) (told : Bool) (bits n i : ℕ) → has_bit bits i ≡ bits_written names kind p told (Some v) v.number i → mask_bits v.number bits n i ≡ bits_written names kind p told (Some v) n i
 told_bits names kind p v true bits n i e = own_bits names p v bits n i e
 told_bits names Process p v false bits n i e = own_bits names (whole_name p) v bits n i e
-told_bits names Net p v false bits n i e = none_and (nat_eq n v.number) (has_bit bits i) e
+told_bits names Net p v false bits n i e = and_right (nat_eq n v.number) (has_bit bits i) e
 
 -- the mask that a part has among masks
 pub mask_writes : (names : Names) (kind : Writer) (p : Part) (v : Vector) (bits : ℕ) (masks : Bits) → part_vector names p ≡ Some v → ((i : ℕ) → has_bit bits i ≡ masks v.number i) → masks ≡ part_writes names kind p → mask_bits v.number bits ≡ part_writes names kind p
@@ -107,18 +82,6 @@ mask_writes names kind p v bits masks is has same =
     let of_vector : Option Vector → Bits = bits_written names kind p (is_told names p) in
     let each : (i : ℕ) → has_bit bits i ≡ of_vector (Some v) v.number i = λ i. has i ∙ ap (λ (b : Bits). b v.number i) same ∙ ap (λ (o : Option Vector). of_vector o v.number i) is in
     fun_ext (λ n. fun_ext (λ i. told_bits names kind p v (is_told names p) bits n i (each i))) ∙ sym (ap of_vector is)
-
-no_vector : (names : Names) (kind : Writer) (p : Part) (told : Bool) → bits_written names kind p told None ≡ no_bits
-no_vector names kind p true = refl
-no_vector names Process p false = refl
-no_vector names Net p false = refl
-
-pub writes_none : (names : Names) (kind : Writer) (p : Part) → part_vector names p ≡ None → part_writes names kind p ≡ no_bits
-writes_none names kind p is = ap (bits_written names kind p (is_told names p)) is ∙ no_vector names kind p (is_told names p)
-
-pub with_none : (kind : Writer) (w : Written) → with_bits kind w no_bits ≡ w
-with_none Net w = ap (λ (b : Bits). record w { nets = b }) (add_none w.nets)
-with_none Process w = ap (λ (b : Bits). record w { variables = b }) (add_none w.variables)
 
 -- What is refused.
 

@@ -1,15 +1,7 @@
 -- Parts and left sides one after the other.
-use Rattle.std.proofs.Common.{◌≡◌, ℕ, zero, suc, ◌<◌, List, [], ◌∷◌, ◌++◌, map, take, length, get_or, refl, sym, ap, ◌∙◌, subst, append_assoc, arith}
-use Rattle.std.specs.Prelude.{Option}
-use Rattle.std.proofs.lemmas.List.{append-nil}
-use Rattle.vlog_syntax.specs.declared.left_side.LeftSide.{LeftSide}
-use Rattle.vlog_meaning.specs.Scopes.{Names}
-use Rattle.vlog_effects.specs.LeftSides.{Part, parts_of, concatenated}
+use Rattle.tb_writers.proofs.Common.{◌≡◌, ℕ, zero, suc, ◌<◌, List, [], ◌∷◌, ◌++◌, map, take, length, get_or, refl, sym, ap, ◌∙◌, subst, append_assoc, arith, Option, append-nil, LeftSide, Names, Part}
+use Rattle.tb_writers.proofs.Common.{parts_of, concatenated, BenchFault, IsFirst, Writer, Written, with_part, part_faults, with_parts, parts_faults, with_lefts, lefts_faults}
 use Rattle.elab_proc.proofs.Lists.{parts_take}
-use Rattle.tb_faults.specs.declared.fault.BenchFault.{BenchFault}
-use Rattle.tb_faults.specs.Order.{IsFirst}
-use Rattle.tb_writers.specs.declared.writers.Writer.{Writer}
-use Rattle.tb_writers.specs.Writers.{Written, with_part, part_faults, with_parts, parts_faults, with_lefts, lefts_faults}
 
 module _ (names : Names) (kind : Writer) where
   parts_after : (w : Written) (xs ys : List Part) → with_parts names kind w (xs ++ ys) ≡ with_parts names kind (with_parts names kind w xs) ys

@@ -1,46 +1,11 @@
 -- Masks in a table, and the bits that masks have in common.
-use Rattle.std.proofs.Common.{◌≡◌, zero, suc, ℕ, ◌-◌, ◌^◌, ◌<◌, ◌≤◌, min, max, Bool, true, false, not, ◌&&◌, ◌||◌, nat_eq, nat_lt, List, [], ◌∷◌, ◌++◌, length, get_or, set, refl, sym, ap, ◌∙◌, arith}
-use Rattle.std.proofs.Math.Path.{fun_ext}
+use Rattle.tb_writers.proofs.Common.{◌≡◌, zero, suc, ℕ, ◌-◌, ◌^◌, ◌<◌, ◌≤◌, Bool, true, false, not, ◌&&◌, ◌||◌, nat_eq, nat_lt, List, [], ◌∷◌, ◌++◌, length, get_or, set, refl, sym, ap, ◌∙◌, arith}
+use Rattle.tb_writers.proofs.Common.{fun_ext, nat_tests, get_or-set_same, get_or-set_other, no_bits, either, has_bit, some_below, bits_of, mask_bits, whole_signal, or-right, or-left}
 use Rattle.std.specs.Int.{bit_at}
 use Rattle.std.specs.Int.Bits.{bit_and, bit_or}
-use Rattle.std.proofs.lemmas.Bool.Decides.{nat_tests}
-use Rattle.std.proofs.lemmas.List.{get_or-set_same, get_or-set_other}
 use Rattle.std.proofs.lemmas.Nat.{and_le_l}
-use Rattle.std.proofs.lemmas.Nat.Bits.{bit_at_and, bit_at_or, bit_at-lt, bit_at-zero, bit_at_ones, bit_at_ones_above, same_from_bits_below}
-use Rattle.vlog_meaning.specs.Senses.{no_bits, either}
-use Rattle.signal_masks.specs.Masks.{has_bit}
-use Rattle.tb_writers.specs.Writes.{some_below}
-use Rattle.tb_writers.specs.Views.{bits_of, mask_bits}
-use Rattle.tb_writers.specs.Writers.{whole_signal}
-
-or_test : (x y : ℕ) → x < 2 → y < 2 → nat_eq (max x y) 1 ≡ (nat_eq x 1 || nat_eq y 1)
-or_test zero zero h k = refl
-or_test zero (suc zero) h k = refl
-or_test (suc zero) zero h k = refl
-or_test (suc zero) (suc zero) h k = refl
-or_test zero (suc (suc y)) h k = absurd (omega arith)
-or_test (suc zero) (suc (suc y)) h k = absurd (omega arith)
-or_test (suc (suc x)) y h k = absurd (omega arith)
-
-and_test : (x y : ℕ) → x < 2 → y < 2 → nat_eq (min x y) 1 ≡ (nat_eq x 1 && nat_eq y 1)
-and_test zero zero h k = refl
-and_test zero (suc zero) h k = refl
-and_test (suc zero) zero h k = refl
-and_test (suc zero) (suc zero) h k = refl
-and_test zero (suc (suc y)) h k = absurd (omega arith)
-and_test (suc zero) (suc (suc y)) h k = absurd (omega arith)
-and_test (suc (suc x)) y h k = absurd (omega arith)
-
-pub has_or : (a b i : ℕ) → has_bit (bit_or a b) i ≡ (has_bit a i || has_bit b i)
-has_or a b i = ap (λ (x : ℕ). nat_eq x 1) (bit_at_or a b i) ∙ or_test (bit_at a i) (bit_at b i) (bit_at-lt a i) (bit_at-lt b i)
-
-has_and : (a b i : ℕ) → has_bit (bit_and a b) i ≡ (has_bit a i && has_bit b i)
-has_and a b i = ap (λ (x : ℕ). nat_eq x 1) (bit_at_and a b i) ∙ and_test (bit_at a i) (bit_at b i) (bit_at-lt a i) (bit_at-lt b i)
-
-has_none : (i : ℕ) → has_bit 0 i ≡ false
-has_none i = ap (λ (x : ℕ). nat_eq x 1) (bit_at-zero i)
-
--- A table.
+use Rattle.std.proofs.lemmas.Nat.Bits.{bit_at-lt, bit_at-zero, bit_at_ones, bit_at_ones_above, same_from_bits_below}
+use Rattle.signal_masks.proofs.Bits.{has_or, has_and, has_none}
 
 pub none_at_first : bits_of [] ≡ no_bits
 none_at_first = fun_ext (λ n. fun_ext (λ i. has_none i))
@@ -73,21 +38,13 @@ mask_more xs k v bits h is = fun_ext (λ n. fun_ext (λ i. go n i (nat_eq n k) r
 
 -- Masks that meet.
 
-first_false : (a b : Bool) → (a || b) ≡ false → a ≡ false
-first_false true b e = e
-first_false false b e = refl
-
-second_false : (a b : Bool) → (a || b) ≡ false → b ≡ false
-second_false true b e = absurd cc
-second_false false b e = e
-
 none_below : (n : ℕ) (f : ℕ → Bool) → some_below n f ≡ false → (i : ℕ) → i < n → f i ≡ false
 unfolding some_below
 none_below zero f e i h = absurd (omega arith)
-none_below (suc n) f e i h = go (nat_eq i n) refl (none_below n f (second_false (f n) (some_below n f) e) i)
+none_below (suc n) f e i h = go (nat_eq i n) refl (none_below n f (or-right (f n) (some_below n f) e) i)
   where
     go : (b : Bool) → nat_eq i n ≡ b → (i < n → f i ≡ false) → f i ≡ false
-    go true is later = let same : i ≡ n = grind (arith, nat_tests) in ap f same ∙ first_false (f n) (some_below n f) e
+    go true is later = let same : i ≡ n = grind (arith, nat_tests) in ap f same ∙ or-left (f n) (some_below n f) e
     go false is later = later (grind (arith, nat_tests))
 
 some_there : (n : ℕ) (f : ℕ → Bool) → some_below n f ≡ true → (i : ℕ) × (f i ≡ true)

@@ -39,9 +39,6 @@ item_step i = i.body
 abbrev pub stmt_lefts : Stmt → List LeftSide
 stmt_lefts = fold-Stmt (List LeftSide) (List LeftSide) stmt_step item_step
 
-abbrev pub case_lefts : CaseItem → List LeftSide
-case_lefts = fold-CaseItem (List LeftSide) (List LeftSide) stmt_step item_step
-
 -- those of an item of a testbench
 abbrev pub lefts_in : BenchItem → List LeftSide
 lefts_in (b.Drives name x) = l.Name name ∷ []
@@ -51,3 +48,8 @@ lefts_in (b.Runs p) = stmt_lefts p.body
 lefts_in (b.Enters port x) = l.Name port ∷ []
 lefts_in (b.Leaves port left) = left ∷ []
 lefts_in other = []
+
+-- For proofs alone.
+
+abbrev pub case_lefts : CaseItem → List LeftSide
+case_lefts = fold-CaseItem (List LeftSide) (List LeftSide) stmt_step item_step

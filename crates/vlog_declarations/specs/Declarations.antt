@@ -13,9 +13,10 @@ use Rattle.vlog_syntax.specs.declared.item.PlainItem.TheVariants as p
 use Rattle.vlog_grammar.specs.declared.rule.Rule.{Rule}
 use Rattle.vlog_grammar.specs.declared.rule.Rule.TheVariants as r
 use Rattle.vlog_parts.specs.declared.value.Value.{Value}
-use Rattle.vlog_parts.specs.Sorts as v
+use Rattle.vlog_parts.specs.declared.value.Value.TheVariants as v
 use Rattle.vlog_declarations.specs.Modules.{made_module}
-use Rattle.vlog_parts.specs.Values.{first, second, third, fourth, span_of, identifier_of, expr_of, option_expr_of, range_of, vector_of, declared_of, declareds_of, parameter_type_of, parameter_of, parameters_of, output_names_of}
+use Rattle.vlog_parts.specs.Numbered.{first, second, third, fourth}
+use Rattle.vlog_parts.specs.Values.{span_of, identifier_of, expr_of, option_expr_of, range_of, vector_of, declared_of, declareds_of, parameter_type_of, parameter_of, parameters_of, output_names_of}
 
 abbrev pub plain : PlainItem → Value
 plain item = v.Item (i.Plain item)

@@ -8,12 +8,13 @@ use Rattle.vlog_syntax.specs.declared.item.Ports.TheVariants as po
 use Rattle.vlog_grammar.specs.declared.rule.Rule.{Rule}
 use Rattle.vlog_grammar.specs.declared.rule.Rule.TheVariants as r
 use Rattle.vlog_parts.specs.declared.value.Value.{Value}
-use Rattle.vlog_parts.specs.Sorts as v
+use Rattle.vlog_parts.specs.declared.value.Value.TheVariants as v
 use Rattle.vlog_parts.specs.declared.module_parts.ParameterPort.{ParameterPort}
 use Rattle.vlog_parts.specs.declared.module_parts.ParameterPort.TheVariants as pp
 use Rattle.vlog_parts.specs.declared.module_parts.MoreParameters.{MoreParameters}
 use Rattle.vlog_parts.specs.declared.module_parts.MorePorts.{MorePorts}
-use Rattle.vlog_parts.specs.Values.{first, rest, second, third, fourth, fifth, sixth, eighth, span_of, identifier_of, identifiers_of, vector_of, declared_of, parameter_type_of, parameter_of, items_of, modules_of, parameter_ports_of, parameter_port_of, more_parameters_of, port_list_of, declarations_of, more_ports_of, output_ports_of}
+use Rattle.vlog_parts.specs.Numbered.{first, rest, second, third, fourth, fifth, sixth, eighth}
+use Rattle.vlog_parts.specs.Values.{span_of, identifier_of, identifiers_of, vector_of, declared_of, parameter_type_of, parameter_of, items_of, modules_of, parameter_ports_of, parameter_port_of, more_parameters_of, port_list_of, declarations_of, more_ports_of, output_ports_of}
 
 -- A parameter in front of those behind it. One with `parameter` begins a declaration of its own.
 unfoldable pub joined : ParameterPort → MoreParameters → MoreParameters

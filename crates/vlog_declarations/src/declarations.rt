@@ -3,10 +3,11 @@
 
 ghost use Rattle.std.specs.Prelude.{◌≡◌, ◌∷◌, true, IfOk};
 ghost use Rattle.vlog_grammar.specs.declared.rule.Rule.TheVariants as r;
-ghost use Rattle.vlog_parts.specs.Sorts as v;
-ghost use Rattle.vlog_parts.specs.Values.{first, rest, second, third, fourth, declared_of, declareds_of, is_declared, is_parameter, is_parameter_type};
+ghost use Rattle.vlog_parts.specs.declared.value.Value.TheVariants as v;
+ghost use Rattle.vlog_parts.specs.Sorts.{is_declared, is_parameter, is_parameter_type};
+ghost use Rattle.vlog_parts.specs.Numbered.{first, rest, second, third};
+ghost use Rattle.vlog_parts.specs.Values.{declared_of, declareds_of};
 ghost use Rattle.vlog_declarations.specs.Declarations as spec;
-ghost use Rattle.vlog_syntax.specs.declared.item.ParameterType.TheVariants as pt;
 ghost use Rattle.vlog_syntax.specs.declared.item.PlainItem.TheVariants as p;
 ghost use Rattle.vlog_parts.specs.Kinds.{sorted};
 
@@ -14,10 +15,7 @@ use crate::modules::make_module;
 use mcy_base::Span;
 use std::alloc::{AllocError, Global};
 use vlog_grammar::Rule;
-use vlog_parts::{
-    DeclarationPart, OutputNames, ParameterPart, Parts, Value, boxed_declaration_part,
-    boxed_parameter_part, boxed_plain,
-};
+use vlog_parts::{OutputNames, Parts, Value, boxed_output_names, boxed_plain};
 use vlog_syntax::{
     DataDeclaration, DataType, DeclaredName, Direction, Identifier, ParameterAssignment,
     ParameterDeclaration, ParameterKind, ParameterType, PlainItem, PortDeclaration, Range,
@@ -25,56 +23,47 @@ use vlog_syntax::{
 };
 
 /// A range.
-fn some_range<'a>(alloc: Global, parts: &mut Parts<'a>) -> Result<Value<'a>, AllocError>
+fn some_range<'a>(parts: &mut Parts<'a>) -> Value<'a>
     requires { sorted r.SomeRange parts.old ≡ true }
-    ensures { IfOk result (λ x. x ≡ spec.made_declaration r.SomeRange parts.old) }
+    ensures { result ≡ spec.made_declaration r.SomeRange parts.old }
 {
     let span = parts.span();
     let msb = parts.expr();
     parts.skip();
     let lsb = parts.expr();
-    boxed_declaration_part(alloc, DeclarationPart::Range(Range { span, msb, lsb }))
+    Value::Range(Range { span, msb, lsb })
 }
 
 /// A vector without a sign.
-fn unsigned_range<'a>(alloc: Global, parts: &mut Parts<'a>) -> Result<Value<'a>, AllocError>
-    ensures { IfOk result (λ x. x ≡ spec.made_declaration r.UnsignedRange parts.old) }
+fn unsigned_range<'a>(parts: &mut Parts<'a>) -> Value<'a>
+    ensures { result ≡ spec.made_declaration r.UnsignedRange parts.old }
 {
-    boxed_declaration_part(
-        alloc,
-        DeclarationPart::Vector(VectorType {
-            is_signed: false,
-            range: parts.range(),
-        }),
-    )
+    Value::Vector(VectorType {
+        is_signed: false,
+        range: parts.range(),
+    })
 }
 
 /// A vector with a sign.
-fn signed_range<'a>(alloc: Global, parts: &mut Parts<'a>) -> Result<Value<'a>, AllocError>
-    ensures { IfOk result (λ x. x ≡ spec.made_declaration r.SignedRange parts.old) }
+fn signed_range<'a>(parts: &mut Parts<'a>) -> Value<'a>
+    ensures { result ≡ spec.made_declaration r.SignedRange parts.old }
 {
     parts.skip();
-    boxed_declaration_part(
-        alloc,
-        DeclarationPart::Vector(VectorType {
-            is_signed: true,
-            range: parts.range(),
-        }),
-    )
+    Value::Vector(VectorType {
+        is_signed: true,
+        range: parts.range(),
+    })
 }
 
 /// A declared name.
-fn name_declared<'a>(alloc: Global, parts: &mut Parts<'a>) -> Result<Value<'a>, AllocError>
+fn name_declared<'a>(parts: &mut Parts<'a>) -> Value<'a>
     requires { sorted r.NameDeclared parts.old ≡ true }
-    ensures { IfOk result (λ x. x ≡ spec.made_declaration r.NameDeclared parts.old) }
+    ensures { result ≡ spec.made_declaration r.NameDeclared parts.old }
 {
-    boxed_declaration_part(
-        alloc,
-        DeclarationPart::DeclaredName(DeclaredName {
-            name: parts.identifier(),
-            initial: None,
-        }),
-    )
+    Value::DeclaredName(DeclaredName {
+        name: parts.identifier(),
+        initial: None,
+    })
 }
 
 /// The name of what is declared.
@@ -88,16 +77,13 @@ fn declared_name(parts: &mut Parts<'_>) -> Identifier
 }
 
 /// A declared name with its initial value, where it has one.
-fn variable_declared<'a>(alloc: Global, parts: &mut Parts<'a>) -> Result<Value<'a>, AllocError>
+fn variable_declared<'a>(parts: &mut Parts<'a>) -> Value<'a>
     requires { sorted r.VariableDeclared parts.old ≡ true }
-    ensures { IfOk result (λ x. x ≡ spec.made_declaration r.VariableDeclared parts.old) }
+    ensures { result ≡ spec.made_declaration r.VariableDeclared parts.old }
 {
     let name = declared_name(parts);
     let initial = parts.option_expr();
-    boxed_declaration_part(
-        alloc,
-        DeclarationPart::DeclaredName(DeclaredName { name, initial }),
-    )
+    Value::DeclaredName(DeclaredName { name, initial })
 }
 
 /// A name behind a `,`, and those behind it.
@@ -108,21 +94,18 @@ fn next_declared_name<'a>(alloc: Global, parts: &mut Parts<'a>) -> Result<Value<
 {
     parts.skip();
     let names = parts.some_declareds(alloc)?;
-    boxed_declaration_part(alloc, DeclarationPart::DeclaredNames(names))
+    Ok(Value::DeclaredNames(names))
 }
 
 /// A parameter with its value.
-fn param_assigned<'a>(alloc: Global, parts: &mut Parts<'a>) -> Result<Value<'a>, AllocError>
+fn param_assigned<'a>(parts: &mut Parts<'a>) -> Value<'a>
     requires { sorted r.ParamAssigned parts.old ≡ true }
-    ensures { IfOk result (λ x. x ≡ spec.made_declaration r.ParamAssigned parts.old) }
+    ensures { result ≡ spec.made_declaration r.ParamAssigned parts.old }
 {
     let name = declared_name(parts);
     parts.skip();
     let value = parts.expr();
-    boxed_parameter_part(
-        alloc,
-        ParameterPart::Parameter(ParameterAssignment { name, value }),
-    )
+    Value::Parameter(ParameterAssignment { name, value })
 }
 
 /// A parameter behind a `,`, and those behind it.
@@ -132,7 +115,7 @@ fn next_param_assignment<'a>(alloc: Global, parts: &mut Parts<'a>) -> Result<Val
 {
     parts.skip();
     let all = parts.some_parameters(alloc)?;
-    boxed_parameter_part(alloc, ParameterPart::Parameters(all))
+    Ok(Value::Parameters(all))
 }
 
 /// Outputs that are wires.
@@ -142,7 +125,7 @@ fn output_net<'a>(alloc: Global, parts: &mut Parts<'a>) -> Result<Value<'a>, All
 {
     let data_type = DataType::Wire(parts.vector());
     let names = parts.names_of_type(alloc, data_type)?;
-    boxed_declaration_part(alloc, DeclarationPart::OutputNames(names))
+    boxed_output_names(alloc, names)
 }
 
 /// Outputs that are variables.
@@ -153,7 +136,7 @@ fn output_reg<'a>(alloc: Global, parts: &mut Parts<'a>) -> Result<Value<'a>, All
     parts.skip();
     let data_type = DataType::Reg(parts.vector());
     let names = parts.names_of_type(alloc, data_type)?;
-    boxed_declaration_part(alloc, DeclarationPart::OutputNames(names))
+    boxed_output_names(alloc, names)
 }
 
 /// Outputs that are integers.
@@ -163,7 +146,7 @@ fn output_integer<'a>(alloc: Global, parts: &mut Parts<'a>) -> Result<Value<'a>,
 {
     parts.skip();
     let names = parts.names_of_type(alloc, DataType::Integer)?;
-    boxed_declaration_part(alloc, DeclarationPart::OutputNames(names))
+    boxed_output_names(alloc, names)
 }
 
 /// A declaration of parameters.
@@ -300,22 +283,12 @@ fn genvar_declaration<'a>(alloc: Global, parts: &mut Parts<'a>) -> Result<Value<
 }
 
 /// The type of parameters that are vectors.
-fn vector_parameter<'a>(alloc: Global, parts: &mut Parts<'a>) -> Result<Value<'a>, AllocError>
+fn vector_parameter<'a>(parts: &mut Parts<'a>) -> Value<'a>
     requires { sorted r.VectorParameter parts.old ≡ true }
-    ensures { IfOk result (λ x. x ≡ spec.made_declaration r.VectorParameter parts.old) }
+    ensures { result ≡ spec.made_declaration r.VectorParameter parts.old }
 {
     let vector = parts.vector();
-    boxed_parameter_part(
-        alloc,
-        ParameterPart::ParameterType(ParameterType::Vector(vector)),
-    )
-}
-
-/// The type of parameters that are integers.
-fn integer_parameter<'a>(alloc: Global) -> Result<Value<'a>, AllocError>
-    ensures { IfOk result (λ x. x ≡ v.ParameterType pt.Integer) }
-{
-    boxed_parameter_part(alloc, ParameterPart::ParameterType(ParameterType::Integer))
+    Value::ParameterType(ParameterType::Vector(vector))
 }
 
 /// What a production of declarations means.
@@ -329,16 +302,16 @@ pub fn make_declaration<'a>(
     ensures { IfOk result (λ x. x ≡ spec.made_declaration rule parts.old) }
 {
     match rule {
-        Rule::UnsignedRange => unsigned_range(alloc, parts),
-        Rule::SignedRange => signed_range(alloc, parts),
-        Rule::SomeRange => some_range(alloc, parts),
-        Rule::NameDeclared => name_declared(alloc, parts),
+        Rule::UnsignedRange => Ok(unsigned_range(parts)),
+        Rule::SignedRange => Ok(signed_range(parts)),
+        Rule::SomeRange => Ok(some_range(parts)),
+        Rule::NameDeclared => Ok(name_declared(parts)),
         Rule::NextDeclaredName => next_declared_name(alloc, parts),
         Rule::NextVariable => next_declared_name(alloc, parts),
-        Rule::VariableDeclared => variable_declared(alloc, parts),
-        Rule::VectorParameter => vector_parameter(alloc, parts),
-        Rule::IntegerParameter => integer_parameter(alloc),
-        Rule::ParamAssigned => param_assigned(alloc, parts),
+        Rule::VariableDeclared => Ok(variable_declared(parts)),
+        Rule::VectorParameter => Ok(vector_parameter(parts)),
+        Rule::IntegerParameter => Ok(Value::ParameterType(ParameterType::Integer)),
+        Rule::ParamAssigned => Ok(param_assigned(parts)),
         Rule::NextParamAssignment => next_param_assignment(alloc, parts),
         Rule::OutputNet => output_net(alloc, parts),
         Rule::OutputReg => output_reg(alloc, parts),

@@ -3,9 +3,11 @@
 
 ghost use Rattle.std.specs.Prelude.{◌≡◌, [], true, IfOk};
 ghost use Rattle.vlog_grammar.specs.declared.rule.Rule.TheVariants as r;
-ghost use Rattle.vlog_parts.specs.Sorts as v;
+ghost use Rattle.vlog_parts.specs.declared.value.Value.TheVariants as v;
 ghost use Rattle.vlog_parts.specs.declared.module_parts.ParameterPort.TheVariants as pp;
-ghost use Rattle.vlog_parts.specs.Values.{first, declarations_of, is_declared};
+ghost use Rattle.vlog_parts.specs.Sorts.{is_declared};
+ghost use Rattle.vlog_parts.specs.Numbered.{first};
+ghost use Rattle.vlog_parts.specs.Values.{declarations_of};
 ghost use Rattle.vlog_parts.specs.Kinds.{sorted};
 ghost use Rattle.vlog_declarations.specs.Modules as spec;
 
@@ -13,8 +15,8 @@ use mcy_base::Span;
 use std::alloc::{AllocError, Global};
 use vlog_grammar::Rule;
 use vlog_parts::{
-    HeadPart, ModulePart, MoreParameters, MorePorts, OutputPorts, ParameterPort, Parts, Stack,
-    Value, boxed_head_part, boxed_module_part, boxed_modules,
+    MoreParameters, MorePorts, OutputPorts, ParameterPort, Parts, Stack, Value, boxed_output_ports,
+    boxed_parameter_port, some_modules,
 };
 use vlog_syntax::{
     DataType, Direction, Module, ParameterAssignment, ParameterDeclaration, ParameterKind,
@@ -87,7 +89,7 @@ fn parameter_port_list<'a>(alloc: Global, parts: &mut Parts<'a>) -> Result<Value
     let first = parts.parameter();
     let more = parts.more_parameters(alloc);
     let all = joined_first(span, data_type, first, more)?;
-    boxed_head_part(alloc, HeadPart::ParameterDeclarations(all))
+    Ok(Value::ParameterDeclarations(all))
 }
 
 /// A parameter behind a `,`, and those behind it.
@@ -98,7 +100,7 @@ fn next_parameter_port<'a>(alloc: Global, parts: &mut Parts<'a>) -> Result<Value
     parts.skip();
     let port = parts.parameter_port();
     let more = parts.more_parameters(alloc);
-    boxed_head_part(alloc, HeadPart::MoreParameters(joined(alloc, port, more)?))
+    Ok(Value::MoreParameters(joined(alloc, port, more)?))
 }
 
 /// A parameter with its type.
@@ -112,10 +114,7 @@ fn parameter_port_declaration<'a>(
     let span = parts.span();
     let data_type = parts.parameter_type();
     let parameter = parts.parameter();
-    boxed_head_part(
-        alloc,
-        HeadPart::ParameterPort(ParameterPort::First(span, data_type, parameter)),
-    )
+    boxed_parameter_port(alloc, ParameterPort::First(span, data_type, parameter))
 }
 
 /// Ports by name.
@@ -124,18 +123,15 @@ fn port_references<'a>(alloc: Global, parts: &mut Parts<'a>) -> Result<Value<'a>
     ensures { IfOk result (λ x. x ≡ spec.made_module r.PortReferences parts.old) }
 {
     let all = parts.some_identifiers(alloc)?;
-    boxed_module_part(alloc, ModulePart::Ports(Ports::Names(all.into_listed())))
+    Ok(Value::Ports(Ports::Names(all.into_listed())))
 }
 
 /// Ports by their declarations.
-fn port_declarations<'a>(alloc: Global, parts: &mut Parts<'a>) -> Result<Value<'a>, AllocError>
-    ensures { IfOk result (λ x. x ≡ spec.made_module r.PortDeclarations parts.old) }
+fn port_declarations<'a>(alloc: Global, parts: &mut Parts<'a>) -> Value<'a>
+    ensures { result ≡ spec.made_module r.PortDeclarations parts.old }
 {
     let declarations = parts.declarations(alloc);
-    boxed_module_part(
-        alloc,
-        ModulePart::Ports(Ports::Declarations(declarations.into_listed())),
-    )
+    Value::Ports(Ports::Declarations(declarations.into_listed()))
 }
 
 /// A name behind a `,`, and those behind it.
@@ -145,7 +141,7 @@ fn next_identifier<'a>(alloc: Global, parts: &mut Parts<'a>) -> Result<Value<'a>
 {
     parts.skip();
     let all = parts.some_identifiers(alloc)?;
-    boxed_module_part(alloc, ModulePart::Identifiers(all))
+    Ok(Value::Identifiers(all))
 }
 
 /// Ports of a type: a port in front of those behind it.
@@ -198,7 +194,7 @@ fn input_ports<'a>(alloc: Global, parts: &mut Parts<'a>) -> Result<Value<'a>, Al
         data_type,
         names: names.into_listed(),
     })?;
-    boxed_module_part(alloc, ModulePart::PortDeclarations(all))
+    Ok(Value::PortDeclarations(all))
 }
 
 /// Outputs, and the declarations behind them.
@@ -218,7 +214,7 @@ fn output_ports<'a>(alloc: Global, parts: &mut Parts<'a>) -> Result<Value<'a>, A
         data_type,
         names: names.into_listed(),
     })?;
-    boxed_module_part(alloc, ModulePart::PortDeclarations(all))
+    Ok(Value::PortDeclarations(all))
 }
 
 /// Outputs of one type.
@@ -232,7 +228,7 @@ fn outputs<'a>(
     ensures { IfOk result (λ x. x ≡ spec.outputs data_type parts.old) }
 {
     let ports = typed_front(alloc, data_type, parts)?;
-    boxed_module_part(alloc, ModulePart::OutputPorts(ports))
+    boxed_output_ports(alloc, ports)
 }
 
 /// Outputs that are wires.
@@ -269,22 +265,19 @@ fn more_ports<'a>(alloc: Global, parts: &mut Parts<'a>) -> Result<Value<'a>, All
     requires { is_declared (first parts.old) ≡ true }
     ensures { IfOk result (λ x. x ≡ v.MorePorts (spec.front parts.old)) }
 {
-    boxed_module_part(alloc, ModulePart::MorePorts(front(alloc, parts)?))
+    Ok(Value::MorePorts(front(alloc, parts)?))
 }
 
 /// Declarations behind a `,`.
 #[tactic(auto)]
-fn other_ports<'a>(alloc: Global, parts: &mut Parts<'a>) -> Result<Value<'a>, AllocError>
-    ensures { IfOk result (λ x. x ≡ v.MorePorts (record { same = []; others = declarations_of (first parts.old) })) }
+fn other_ports<'a>(alloc: Global, parts: &mut Parts<'a>) -> Value<'a>
+    ensures { result ≡ v.MorePorts (record { same = []; others = declarations_of (first parts.old) }) }
 {
     let others = parts.declarations(alloc);
-    boxed_module_part(
-        alloc,
-        ModulePart::MorePorts(MorePorts {
-            same: Stack::new(alloc),
-            others,
-        }),
-    )
+    Value::MorePorts(MorePorts {
+        same: Stack::new(alloc),
+        others,
+    })
 }
 
 /// A module, and those behind it.
@@ -307,7 +300,7 @@ fn module_declaration<'a>(alloc: Global, parts: &mut Parts<'a>) -> Result<Value<
         ports,
         items: items.into_listed(),
     };
-    boxed_modules(alloc, module, parts.modules(alloc))
+    some_modules(module, parts.modules(alloc))
 }
 
 /// A parameter of the type before it.
@@ -318,10 +311,7 @@ fn parameter_port_assignment<'a>(
     requires { sorted r.ParameterPortAssignment parts.old ≡ true }
     ensures { IfOk result (λ x. x ≡ spec.made_module r.ParameterPortAssignment parts.old) }
 {
-    boxed_head_part(
-        alloc,
-        HeadPart::ParameterPort(ParameterPort::Next(parts.parameter())),
-    )
+    boxed_parameter_port(alloc, ParameterPort::Next(parts.parameter()))
 }
 
 /// What a production of modules means.
@@ -341,7 +331,7 @@ pub fn make_module<'a>(
         Rule::ParameterPortDeclaration => parameter_port_declaration(alloc, parts),
         Rule::ParameterPortAssignment => parameter_port_assignment(alloc, parts),
         Rule::PortReferences => port_references(alloc, parts),
-        Rule::PortDeclarations => port_declarations(alloc, parts),
+        Rule::PortDeclarations => Ok(port_declarations(alloc, parts)),
         Rule::NextIdentifier => next_identifier(alloc, parts),
         Rule::InputPorts => input_ports(alloc, parts),
         Rule::OutputPorts => output_ports(alloc, parts),
@@ -350,8 +340,8 @@ pub fn make_module<'a>(
         Rule::OutputIntegerPorts => output_integer_ports(alloc, parts),
         Rule::NetPortName => more_ports(alloc, parts),
         Rule::VariablePortName => more_ports(alloc, parts),
-        Rule::NetPortDeclaration => other_ports(alloc, parts),
-        Rule::VariablePortDeclaration => other_ports(alloc, parts),
+        Rule::NetPortDeclaration => Ok(other_ports(alloc, parts)),
+        Rule::VariablePortDeclaration => Ok(other_ports(alloc, parts)),
         _ => Ok(Value::Nothing),
     }
 }

@@ -1,22 +1,15 @@
 -- Two runs of a process that have some bits in common keep the bits that it covers in common.
-use Rattle.std.proofs.Common.{◌≡◌, ℕ, ◌+◌, ◌<◌, ◌^◌, max, Bool, true, false, not, ◌&&◌, ◌||◌, List, [], ◌∷◌, ◌++◌, take, drop, length, Option, Some, None, nat_eq, get_or, refl, sym, ◌∙◌, ap, subst, arith}
-use Rattle.std.specs.Prelude.{if◌then◌else◌}
+use Rattle.vlog_effects.proofs.Common.{◌≡◌, ℕ, ◌+◌, ◌<◌, ◌^◌, max, Bool, true, false, not, ◌&&◌, ◌||◌, List, [], ◌∷◌, ◌++◌, take, drop, length, Option, Some, None, nat_eq, get_or, refl, sym, ◌∙◌, ap}
+use Rattle.vlog_effects.proofs.Common.{subst, arith, if◌then◌else◌, Expr, Decl, Signal, Constant, integer, Names, Store, IsWithin, Bits, no_bits, either, sense, is_empty, own, width_of, is_signed_of}
+use Rattle.vlog_effects.proofs.Common.{value, is_constant, reads, number, bits_of, Select, Whole, Bit, Range, Indexed, Part, Vector, parts_of, part_vector, part_width, width_by, parts_width}
+use Rattle.vlog_effects.proofs.Common.{select_width, bits_from, places, written, Assigning, Selection, Steps, Done, Assign, Choose, Case, Refuse, Arms, Otherwise, Arm, dont_care, Values, numbers}
+use Rattle.vlog_effects.proofs.Common.{Update, State, put, put_all, part_updates, updates_of, right_bits, assigned, holds, agree, sized_bits, matches, effect, arm_effect, IsBlocking, AreBlocking}
+use Rattle.vlog_effects.proofs.Common.{all_of, stands_in, is_fixed, index_reads, part_covers, parts_cover, covered, arms_covered, missed, all_missed, parts_missed, early, arms_early}
+use Rattle.vlog_meaning.specs.declared.fault.Fault.{Fault}
 use Rattle.std.proofs.lemmas.List.{length-drop, length-take-le}
 use Rattle.std.proofs.Math.Bool.{or-false}
-use Rattle.vlog_syntax.specs.declared.expr.Expr.{Expr}
-use Rattle.vlog_meaning.specs.declared.fault.Fault.{Fault}
-use Rattle.vlog_meaning.specs.declared.scope.Decl.{Decl}
-use Rattle.vlog_meaning.specs.declared.scope.Decl.TheVariants.{Signal, Constant}
-use Rattle.vlog_meaning.specs.Integers.{integer}
-use Rattle.vlog_meaning.specs.Scopes.{Names, Store, IsWithin}
-use Rattle.vlog_meaning.specs.Senses.{Bits, no_bits, either, sense, is_empty, own}
 use Rattle.vlog_meaning.proofs.Settled.{settled}
 use Rattle.vlog_meaning.proofs.Reading.{rests_on_reads}
-use Rattle.vlog_effects.specs.Expressions.{width_of, is_signed_of, value, is_constant, reads, number, bits_of}
-use Rattle.vlog_effects.specs.LeftSides.{Select, Whole, Bit, Range, Indexed, Part, Vector, parts_of, part_vector, part_width, width_by, parts_width, select_width, bits_from, places, written}
-use Rattle.vlog_effects.specs.Steps.{Assigning, Selection, Steps, Done, Assign, Choose, Case, Refuse, Arms, Otherwise, Arm, dont_care}
-use Rattle.vlog_effects.specs.Effects.{Values, numbers, Update, State, put, put_all, part_updates, updates_of, right_bits, assigned, holds, agree, sized_bits, matches, effect, arm_effect, IsBlocking, AreBlocking}
-use Rattle.vlog_effects.specs.Latches.{all_of, stands_in, is_fixed, index_reads, part_covers, parts_cover, covered, arms_covered, missed, all_missed, parts_missed, early, arms_early}
 use Rattle.vlog_effects.proofs.Bools.{or-left, or-right, or-again, and-left, and-right, there}
 use Rattle.vlog_effects.proofs.Numbers.{bit_value, number-small, bit_at-number, length-bits_of}
 use Rattle.vlog_effects.proofs.Writing.{written-at, written-stands, length-written, length-bits_from}

@@ -1,43 +1,24 @@
 -- Where labels name each value of a selector, one of them matches.
-use Rattle.std.proofs.Common.{◌≡◌, ℕ, zero, suc, ◌<◌, ◌≤◌, ◌^◌, max, Bool, true, false, ◌&&◌, ◌||◌, List, [], ◌∷◌, ◌++◌, Option, Some, None, nat_eq, nat_le, refl, sym, ◌∙◌, ap, subst, inl, inr, arith}
-use Rattle.std.specs.Prelude.{if◌then◌else◌, not}
-use Rattle.std.proofs.lemmas.Bool.Decides.{eqb_tells}
-use Rattle.std.proofs.lemmas.Bool.{eqb-true}
-use Rattle.mcy_base.specs.declared.span.Span.{Span}
-use Rattle.vlog_syntax.specs.declared.expr.Expr.{Expr}
-use Rattle.vlog_syntax.specs.declared.stmt.CaseKind.{CaseKind}
-use Rattle.vlog_meaning.specs.declared.scope.Decl.{Decl}
-use Rattle.vlog_meaning.specs.declared.scope.Decl.TheVariants.{Signal, Constant}
-use Rattle.vlog_meaning.specs.declared.shapes.Shape.{Shape}
-use Rattle.vlog_meaning.specs.Scopes.{Names, nothing, IsWithin}
-use Rattle.vlog_meaning.specs.Senses.{IsWhole, is_empty}
-use Rattle.vlog_effects.specs.Expressions.{width_of, is_signed_of, value, is_constant, bits_of, number}
-use Rattle.vlog_effects.specs.Selectors.{keeps_width}
-use Rattle.vlog_effects.specs.Steps.{Selection, Steps, Arms, Otherwise, Arm, InNames, Item, dont_care, greatest, all_signed, always, arms_of, default_of, labelled, is_named, all_named, selector_bits, names_all, front, last_body, chosen_arms, labels_of, selection_of}
-use Rattle.vlog_effects.specs.Effects.{Values, State, numbers, agree, bit_same, sized_bits, matches, effect, arm_effect, HasWidth, HaveWidths}
-use Rattle.vlog_effects.specs.Laws.{LastItemServes}
+use Rattle.vlog_effects.proofs.Common.{◌≡◌, ℕ, zero, suc, ◌<◌, ◌≤◌, ◌^◌, max, Bool, true, false, ◌&&◌, ◌||◌, List, [], ◌∷◌, ◌++◌, Option, Some, None, nat_eq, nat_le, refl, sym, ◌∙◌, ap, subst, inl}
+use Rattle.vlog_effects.proofs.Common.{inr, arith, if◌then◌else◌, eqb_tells, eqb-true, Span, Expr, CaseKind, Decl, Signal, Constant, Shape, Names, nothing, IsWithin, IsWhole, is_empty, width_of}
+use Rattle.vlog_effects.proofs.Common.{is_signed_of, value, is_constant, bits_of, number, keeps_width, Selection, Steps, Arms, Otherwise, Arm, InNames, Item, dont_care, greatest, all_signed, always}
+use Rattle.vlog_effects.proofs.Common.{arms_of, default_of, labelled, is_named, all_named, selector_bits, names_all, front, last_body, chosen_arms, labels_of, selection_of, Values, State, numbers}
+use Rattle.vlog_effects.proofs.Common.{agree, bit_same, sized_bits, matches, effect, arm_effect, HasWidth, HaveWidths, LastItemServes, or_left, or_right}
+use Rattle.std.specs.Prelude.{not}
 use Rattle.vlog_effects.proofs.Bools.{and-left, and-right, and-same, or-again}
 use Rattle.vlog_effects.proofs.Numbers.{number-small}
 use Rattle.vlog_effects.proofs.Alike.{value-constant}
 use Rattle.vlog_effects.proofs.Fits.{fits}
 use Rattle.vlog_effects.proofs.Keeping.{keeps}
 
-or-true : (a b : Bool) → b ≡ true → (a || b) ≡ true
-or-true true b e = refl
-or-true false b e = e
-
-first-true : (a b : Bool) → a ≡ true → (a || b) ≡ true
-first-true true b e = refl
-first-true false b e = cc
-
-bit-self : (b : Bool) → bit_same b b ≡ true
+pub bit-self : (b : Bool) → bit_same b b ≡ true
 bit-self true = refl
 bit-self false = refl
 
 agree-self : (is xs : List Bool) → agree is xs xs ≡ true
 agree-self [] xs = refl
 agree-self (i ∷ is) [] = refl
-agree-self (i ∷ is) (x ∷ xs) = and-same (i || bit_same x x) true (agree is xs xs) true (or-true i (bit_same x x) (bit-self x)) (agree-self is xs)
+agree-self (i ∷ is) (x ∷ xs) = and-same (i || bit_same x x) true (agree is xs xs) true (or_right i (bit_same x x) (bit-self x)) (agree-self is xs)
 
 matches-both : (c : Selection) (store : Values) (xs ys : List Expr) → matches c store (xs ++ ys) ≡ (matches c store xs || matches c store ys)
 matches-both c store [] ys = refl
@@ -55,8 +36,8 @@ named-matches c store v (x ∷ xs) e f = go (is_constant c.names x && (nat_eq (d
       ap (λ (n : ℕ). bits_of c.width n) (value-constant c.names x (numbers store) nothing c.width c.is_signed (and-left (is_constant c.names x) _ g) ∙ equal ∙ sym e)
 
   go : (b : Bool) → (is_constant c.names x && (nat_eq (dont_care c.kind x) 0 && nat_eq (value c.names nothing c.width c.is_signed x) v)) ≡ b → (b || is_named c v xs) ≡ true → (is_named c v xs ≡ true → matches c store xs ≡ true) → (agree (bits_of c.width (dont_care c.kind x)) (sized_bits c store c.selector) (sized_bits c store x) || matches c store xs) ≡ true
-  go true g h rest = first-true _ _ (ap (λ (bits : List Bool). agree (bits_of c.width (dont_care c.kind x)) (sized_bits c store c.selector) bits) (same g) ∙ agree-self (bits_of c.width (dont_care c.kind x)) (sized_bits c store c.selector))
-  go false g h rest = or-true _ _ (rest h)
+  go true g h rest = or_left _ _ (ap (λ (bits : List Bool). agree (bits_of c.width (dont_care c.kind x)) (sized_bits c store c.selector) bits) (same g) ∙ agree-self (bits_of c.width (dont_care c.kind x)) (sized_bits c store c.selector))
+  go false g h rest = or_right _ _ (rest h)
 
 -- each value below a bound is named
 each-named : (c : Selection) (bound : ℕ) (labels : List Expr) (n : ℕ) → all_named c bound labels ≡ true → n < bound → is_named c n labels ≡ true

@@ -1,29 +1,18 @@
 -- The value of an expression with a shape fits the width at which it is evaluated.
-use Rattle.std.proofs.Common.{◌≡◌, ℕ, zero, suc, ◌+◌, ◌*◌, ◌<◌, ◌≤◌, ◌^◌, max, Bool, true, false, ℤ, pos, negsuc, List, [], ◌∷◌, map, sym, subst, arith}
-use Rattle.std.specs.Prelude.{Option, None, Some, nat_le, if◌then◌else◌}
-use Rattle.std.proofs.Math.Nat.{mod-lt}
-use Rattle.mcy_base.specs.declared.span.Span.{Span}
-use Rattle.vlog_syntax.specs.declared.expr.Expr.{Expr}
+use Rattle.vlog_effects.proofs.Common.{◌≡◌, ℕ, zero, suc, ◌+◌, ◌*◌, ◌<◌, ◌≤◌, ◌^◌, max, Bool, true, false, List, [], ◌∷◌, map, sym, subst, arith, if◌then◌else◌, Span, Expr, Expr-F, roll-Expr}
+use Rattle.vlog_effects.proofs.Common.{fold-roll-Expr, ind-Expr, map-Expr, Sizing, Common, Left, Compared, Apart, Shape, natural, clog2, clog2_from, bit, sizing, pair_shape, left_context}
+use Rattle.vlog_effects.proofs.Common.{right_context, is_reduction, unary_shape, operand_context, Names, Store, nothing, Sense, sense, senses, step, own, constant_integer, name_faults, total_width}
+use Rattle.vlog_effects.proofs.Common.{joined, repeated, all_faults, call_faults, call_shape, call_value, unary_fits, binary_fits, wider, pair_fits, are_paired, window_fits, branch_fits, low_bits_fit}
+use Rattle.std.specs.Prelude.{Option, None, Some, nat_le}
 use Rattle.vlog_syntax.specs.declared.expr.Expr.TheOpen as e
-use Rattle.vlog_syntax.specs.declared.expr.Expr.TheOpen.{Expr-F}
-use Rattle.vlog_syntax.specs.declared.expr.Expr.TheViews.{roll-Expr}
-use Rattle.vlog_syntax.specs.declared.expr.Expr.TheFolds.{fold-roll-Expr, ind-Expr, map-Expr}
-use Rattle.vlog_meaning.specs.declared.fault.Fault.{Fault}
 use Rattle.vlog_meaning.specs.declared.function.Function.{Function}
 use Rattle.vlog_meaning.specs.declared.function.Function.TheVariants.{Signed, Unsigned, Clog2, Random, Time}
-use Rattle.vlog_meaning.specs.declared.operator.Sizing.{Sizing}
-use Rattle.vlog_meaning.specs.declared.operator.Sizing.TheVariants.{Common, Left, Compared, Apart}
-use Rattle.vlog_meaning.specs.declared.shapes.Shape.{Shape}
 use Rattle.vlog_meaning.specs.Functions.{function_of}
-use Rattle.vlog_meaning.specs.Integers.{low_bits, natural, clog2, clog2_from}
-use Rattle.vlog_meaning.specs.Operators.{bit, sizing, pair_shape, left_context, right_context, is_reduction, unary_shape, operand_context}
-use Rattle.vlog_meaning.specs.Scopes.{Names, Store, nothing}
-use Rattle.vlog_meaning.specs.Senses.{Sense, sense, senses, step, own, constant_integer, part_width, name_faults, total_width, joined, repeated, all_faults, call_faults, call_shape, call_value}
+use Rattle.vlog_meaning.specs.Senses.{part_width}
 use Rattle.vlog_meaning.proofs.Blanks.{left_nil, right_nil, these_nil, those_nil}
-use Rattle.vlog_meaning.proofs.Contexts.{unary_fits, binary_fits, wider, pair_fits, are_paired, window_fits}
 use Rattle.vlog_meaning.proofs.Joins.{joined_fits, clog2_begins}
 use Rattle.vlog_meaning.proofs.Powers.{power_le}
-use Rattle.vlog_meaning.proofs.Whole.{sized_within, name_sized}
+use Rattle.vlog_meaning.proofs.Whole.{sized_within, name_sized, test_fails}
 
 -- where nothing is wrong, there is a bit, and the value fits each width that holds the shape
 abbrev pub FitsWidths : Store → Sense → Type 0
@@ -38,18 +27,6 @@ Proved names store = (x : Expr) × Fits names store x
 
 zero_fits : (w : ℕ) → 0 < 2 ^ w
 zero_fits w = let e : 2 ^ 0 ≤ 2 ^ w = power_le 0 w (omega arith) in omega arith
-
-low_fits : (w : ℕ) (z : ℤ) → low_bits w z < 2 ^ w
-low_fits w (pos n) = mod-lt n (let e : 0 < 2 ^ w = zero_fits w in omega arith)
-low_fits w (negsuc n) = let e : 0 < 2 ^ w = zero_fits w in omega arith
-
-pub either_fits : (b : Bool) (x y m : ℕ) → x < m → y < m → (if b then x else y) < m
-either_fits true x y m h k = h
-either_fits false x y m h k = k
-
-second_nil : (b : Bool) (x : Fault) (more : List Fault) → (if b then x ∷ [] else more) ≡ [] → more ≡ []
-second_nil true x more e = cc
-second_nil false x more e = e
 
 -- Operands in their contexts.
 
@@ -108,7 +85,7 @@ clog2_fits n w h =
 
 call_fits : (names : Names) (store : Store) (f : Option Function) (span : Span) (ws : List (Proved names store)) → call_faults f span (senses names (map (λ w. w.0) ws)) ≡ [] → (1 ≤ (call_shape f (senses names (map (λ w. w.0) ws))).width) × ((c : Shape) → (call_shape f (senses names (map (λ w. w.0) ws))).width ≤ c.width → call_value f (senses names (map (λ w. w.0) ws)) store c < 2 ^ c.width)
 call_fits names store (Some Signed) span [] quiet = cc
-call_fits names store (Some Signed) span (w ∷ []) quiet = ((w.1 quiet).0, λ c h. low_fits c.width _)
+call_fits names store (Some Signed) span (w ∷ []) quiet = ((w.1 quiet).0, λ c h. low_bits_fit c.width _)
 call_fits names store (Some Signed) span (w ∷ x ∷ more) quiet = cc
 call_fits names store (Some Unsigned) span [] quiet = cc
 call_fits names store (Some Unsigned) span (w ∷ []) quiet = ((w.1 quiet).0, λ c h. wider (own store (sense names w.0)) (sense names w.0).shape.width c.width ((w.1 quiet).1 (sense names w.0).shape (omega arith)) h)
@@ -127,13 +104,13 @@ from_step : (names : Names) (store : Store) (x : Expr-F Expr) → FitsWidths sto
 from_step names store x fits = subst (FitsWidths store) (sym (fold-roll-Expr Sense (step names) x)) fits
 
 layer : (names : Names) (store : Store) (y : Expr-F (Proved names store)) → FitsWidths store (step names (map-Expr Expr Sense (sense names) (map-Expr (Proved names store) Expr (λ (w : Proved names store). w.0) y)))
-layer names store (e.Number n) quiet = (n.value.some, λ c h. low_fits c.width _)
-layer names store (e.Name n) quiet = ((name_sized n.span (names n.name) quiet).some, λ c h. low_fits c.width _)
+layer names store (e.Number n) quiet = (n.value.some, λ c h. low_bits_fit c.width _)
+layer names store (e.Name n) quiet = ((name_sized n.span (names n.name) quiet).some, λ c h. low_bits_fit c.width _)
 layer names store (e.BitSelect n s i) quiet = (omega arith, λ c h. wider _ 1 c.width (window_fits _ 1 _) h)
 layer names store (e.PartSelect n s m l) quiet =
     let bounds = right_nil (name_faults n.span (names n.name)) _ quiet in
     let width : ℕ = part_width (constant_integer (sense names m.0)) (constant_integer (sense names l.0)) in
-    let within : (1 ≤ width) × (width ≤ 128) = sized_within s width (second_nil _ _ _ (those_nil _ _ bounds)) in
+    let within : (1 ≤ width) × (width ≤ 128) = sized_within s width (test_fails _ _ _ (those_nil _ _ bounds)) in
     (within.0, λ c h. wider _ width c.width (window_fits _ width _) h)
 layer names store (e.IndexedPartSelect n s b w) quiet =
     let parts = right_nil (sense names b.0).faults _ (right_nil (name_faults n.span (names n.name)) _ quiet) in
@@ -167,7 +144,7 @@ layer names store (e.Conditional s x i j) quiet =
     let first = i.1 (left_nil (sense names i.0).faults (sense names j.0).faults rest) in
     let second = j.1 (right_nil (sense names i.0).faults (sense names j.0).faults rest) in
     let one = first.0 in
-    (omega arith, λ c h. let w : max (sense names i.0).shape.width (sense names j.0).shape.width ≤ c.width = h in either_fits _ _ _ (2 ^ c.width) (second.1 c (omega arith)) (first.1 c (omega arith)))
+    (omega arith, λ c h. let w : max (sense names i.0).shape.width (sense names j.0).shape.width ≤ c.width = h in branch_fits _ _ _ (2 ^ c.width) (second.1 c (omega arith)) (first.1 c (omega arith)))
 layer names store (e.Concatenation s ps) quiet =
     let width : ℕ = total_width (senses names (map (λ w. w.0) ps)) in
     let within : (1 ≤ width) × (width ≤ 128) = sized_within s width (those_nil _ _ quiet) in

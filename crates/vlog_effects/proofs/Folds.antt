@@ -1,29 +1,14 @@
 -- Left sides, items of cases, the bits of labels that are no matter, and selectors that keep their width, by their variants.
-use Rattle.std.proofs.Common.{◌≡◌, ℕ, Bool, true, ◌&&◌, ◌||◌, List, [], ◌∷◌, map, sym, ◌∙◌, ap, rules}
-use Rattle.mcy_base.specs.declared.span.Span.{Span}
-use Rattle.vlog_syntax.specs.declared.identifier.Identifier.{Identifier}
+use Rattle.vlog_effects.proofs.Common.{◌≡◌, ℕ, Bool, true, ◌&&◌, ◌||◌, List, [], ◌∷◌, map, sym, ◌∙◌, ap, rules, Span, Identifier, UnaryOperator, BinaryOperator, Expr, fold-roll-Expr, LeftSide}
+use Rattle.vlog_effects.proofs.Common.{out-LeftSide, CaseKind, CaseItem, roll-CaseItem, Stmt, CaseItem-F, fold-roll-CaseItem, sizing, is_reduction, is_test, is_bitwise, keeps_step, keeps_width, Whole}
+use Rattle.vlog_effects.proofs.Common.{Bit, Range, Indexed, Part, concatenated, parts_step, parts_of, InNames, Item, ignored, ignored_step, dont_care, step_of, item_of, steps_of, item_steps}
 use Rattle.vlog_syntax.specs.declared.identifier.Number.{Number}
-use Rattle.vlog_syntax.specs.declared.operator.UnaryOperator.{UnaryOperator}
-use Rattle.vlog_syntax.specs.declared.operator.BinaryOperator.{BinaryOperator}
-use Rattle.vlog_syntax.specs.declared.expr.Expr.{Expr}
 use Rattle.vlog_syntax.specs.declared.expr.Expr.TheVariants as ev
 use Rattle.vlog_syntax.specs.declared.expr.Expr.TheOpen as e
-use Rattle.vlog_syntax.specs.declared.expr.Expr.TheFolds.{fold-roll-Expr}
-use Rattle.vlog_syntax.specs.declared.left_side.LeftSide.{LeftSide, out-LeftSide}
 use Rattle.vlog_syntax.specs.declared.left_side.LeftSide.TheViews.{the_lemmas}
 use Rattle.vlog_syntax.specs.declared.left_side.LeftSide.TheVariants as lv
 use Rattle.vlog_syntax.specs.declared.left_side.LeftSide.TheOpen as l
 use Rattle.vlog_syntax.specs.declared.left_side.LeftSide.TheFolds.{fold-roll-LeftSide}
-use Rattle.vlog_syntax.specs.declared.stmt.CaseKind.{CaseKind}
-use Rattle.vlog_syntax.specs.declared.stmt.CaseItem.{CaseItem, roll-CaseItem}
-use Rattle.vlog_syntax.specs.declared.stmt.Stmt.{Stmt}
-use Rattle.vlog_syntax.specs.declared.stmt.Stmt.TheOpen.{CaseItem-F}
-use Rattle.vlog_syntax.specs.declared.stmt.Stmt.TheFolds.{fold-roll-CaseItem}
-use Rattle.vlog_meaning.specs.Operators.{sizing, is_reduction}
-use Rattle.vlog_effects.specs.Selectors.{is_test, is_bitwise, keeps_step, keeps_width}
-use Rattle.vlog_effects.specs.LeftSides.{Whole, Bit, Range, Indexed, Part, concatenated, parts_step, parts_of}
-use Rattle.vlog_effects.specs.Steps.{InNames, Item, ignored, ignored_step, dont_care, step_of, item_of, steps_of}
-use Rattle.vlog_effects.specs.Laws.{item_steps}
 
 pub parts-name : (n : Identifier) → parts_of (lv.Name n) ≡ record { name = n; select = Whole } ∷ []
 parts-name n = ap parts_of (sym (lv.rolls-Name n)) ∙ fold-roll-LeftSide (List Part) parts_step (l.Name n)

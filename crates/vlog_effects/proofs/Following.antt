@@ -1,6 +1,5 @@
 -- Steps that follow others.
-use Rattle.std.proofs.Common.{◌≡◌, refl, ap}
-use Rattle.vlog_effects.specs.Steps.{Steps, Done, Assign, Choose, Case, Refuse, followed}
+use Rattle.vlog_effects.proofs.Common.{◌≡◌, refl, ap, Steps, Done, Assign, Choose, Case, Refuse, followed}
 
 pub followed-done : (p : Steps) → followed p Done ≡ p
 followed-done Done = refl

@@ -1,31 +1,19 @@
 -- An unsigned expression whose form keeps its width is a number of that width at each size.
-use Rattle.std.proofs.Common.{◌≡◌, ℕ, ◌<◌, ◌≤◌, ◌^◌, max, Bool, true, false, ◌&&◌, ◌||◌, List, [], map, refl, sym, subst, arith}
-use Rattle.std.specs.Prelude.{Option, None, Some, if◌then◌else◌}
+use Rattle.vlog_effects.proofs.Common.{◌≡◌, ℕ, ◌<◌, ◌≤◌, ◌^◌, max, Bool, true, false, ◌&&◌, ◌||◌, List, [], map, refl, sym, subst, arith, if◌then◌else◌, xor_lt, or_lt, Expr, Expr-F, roll-Expr}
+use Rattle.vlog_effects.proofs.Common.{fold-roll-Expr, ind-Expr, map-Expr, UnaryOperator, BinaryOperator, Sizing, Common, Left, Compared, Apart, Decl, Signal, Constant, Shape, bit, sizing, pair_shape}
+use Rattle.vlog_effects.proofs.Common.{left_context, right_context, result_width, is_reduction, unary_shape, operand_context, unary_value, binary_value, Names, Store, decl_shape, decl_value, IsWithin}
+use Rattle.vlog_effects.proofs.Common.{AreWithin, Sense, sense, senses, step, taken, binary_step, extended, unary_fits, binary_fits, wider, are_paired, is_test, is_bitwise, keeps_step, keeps_width}
+use Rattle.vlog_effects.proofs.Common.{branch_fits}
+use Rattle.std.specs.Prelude.{Option, None, Some}
 use Rattle.std.specs.Int.Bits.{and_lt}
-use Rattle.std.proofs.lemmas.Nat.{xor_lt, or_lt}
-use Rattle.vlog_syntax.specs.declared.expr.Expr.{Expr}
 use Rattle.vlog_syntax.specs.declared.expr.Expr.TheOpen as e
-use Rattle.vlog_syntax.specs.declared.expr.Expr.TheOpen.{Expr-F}
-use Rattle.vlog_syntax.specs.declared.expr.Expr.TheViews.{roll-Expr}
-use Rattle.vlog_syntax.specs.declared.expr.Expr.TheFolds.{fold-roll-Expr, ind-Expr, map-Expr}
-use Rattle.vlog_syntax.specs.declared.operator.UnaryOperator.{UnaryOperator}
-use Rattle.vlog_syntax.specs.declared.operator.BinaryOperator.{BinaryOperator}
-use Rattle.vlog_syntax.specs.declared.operator.BinaryOperator.TheVariants.{Power, Multiply, Divide, Modulus, Add, Subtract, LogicalShiftLeft, LogicalShiftRight, ArithmeticShiftLeft, ArithmeticShiftRight, Less, LessEqual, Greater, GreaterEqual, LogicalEquality, LogicalInequality, CaseEquality, CaseInequality, BitwiseAnd, BitwiseXor, BitwiseXnor, BitwiseOr, LogicalAnd, LogicalOr}
-use Rattle.vlog_meaning.specs.declared.operator.Sizing.{Sizing}
-use Rattle.vlog_meaning.specs.declared.operator.Sizing.TheVariants.{Common, Left, Compared, Apart}
-use Rattle.vlog_meaning.specs.declared.scope.Decl.{Decl}
-use Rattle.vlog_meaning.specs.declared.scope.Decl.TheVariants.{Signal, Constant}
-use Rattle.vlog_meaning.specs.declared.shapes.Shape.{Shape}
-use Rattle.vlog_meaning.specs.Operators.{bit, sizing, pair_shape, left_context, right_context, result_width, is_reduction, unary_shape, operand_context, unary_value, binary_value}
-use Rattle.vlog_meaning.specs.Scopes.{Names, Store, decl_shape, decl_value, IsWithin, AreWithin}
-use Rattle.vlog_meaning.specs.Senses.{Sense, sense, senses, step, taken, binary_step}
-use Rattle.vlog_meaning.specs.Integers.{extended}
+use Rattle.vlog_syntax.specs.declared.operator.BinaryOperator.TheVariants.{Power, Multiply, Divide, Modulus, Add, Subtract, LogicalShiftLeft, LogicalShiftRight, ArithmeticShiftLeft}
+use Rattle.vlog_syntax.specs.declared.operator.BinaryOperator.TheVariants.{ArithmeticShiftRight, Less, LessEqual, Greater, GreaterEqual, LogicalEquality, LogicalInequality, CaseEquality}
+use Rattle.vlog_syntax.specs.declared.operator.BinaryOperator.TheVariants.{CaseInequality, BitwiseAnd, BitwiseXor, BitwiseXnor, BitwiseOr, LogicalAnd, LogicalOr}
 use Rattle.vlog_meaning.proofs.Blanks.{left_nil, right_nil}
-use Rattle.vlog_meaning.proofs.Contexts.{unary_fits, binary_fits, wider, are_paired}
 use Rattle.vlog_meaning.proofs.Signs.{extended_positive}
-use Rattle.vlog_effects.specs.Selectors.{is_test, is_bitwise, keeps_step, keeps_width}
 use Rattle.vlog_effects.proofs.Bools.{and-left, and-right}
-use Rattle.vlog_effects.proofs.Fits.{either_fits, left_at, right_at, fits, fits_at}
+use Rattle.vlog_effects.proofs.Fits.{left_at, right_at, fits, fits_at}
 
 abbrev pub KeepsAs : Store → Bool → Sense → Type 0
 KeepsAs store b a = b ≡ true → a.faults ≡ [] → (c : Shape) → c.is_signed ≡ false → a.shape.width ≤ c.width → a.value store c < 2 ^ a.shape.width
@@ -175,7 +163,7 @@ layer names store held (e.Conditional s x i j) b quiet c sign wide =
     let h : w ≤ c.width = wide in
     let first = i.1 (and-left (keeps_width i.0) _ b) (left_nil (sense names i.0).faults (sense names j.0).faults rest) c sign (omega arith) in
     let second = j.1 (and-right (keeps_width i.0) _ b) (right_nil (sense names i.0).faults (sense names j.0).faults rest) c sign (omega arith) in
-    either_fits _ _ _ (2 ^ w) (wider _ (sense names j.0).shape.width w second (omega arith)) (wider _ (sense names i.0).shape.width w first (omega arith))
+    branch_fits _ _ _ (2 ^ w) (wider _ (sense names j.0).shape.width w second (omega arith)) (wider _ (sense names i.0).shape.width w first (omega arith))
 layer names store held (e.Concatenation s ps) b quiet c sign wide =
     let parts : List Expr = map (λ (w : Proved names store). w.0) ps in
     let own : Shape = (step names (e.Concatenation s (senses names parts))).shape in

@@ -1,12 +1,8 @@
 -- A process changes only signals that it assigns.
-use Rattle.std.proofs.Common.{◌≡◌, ℕ, Bool, true, false, List, [], ◌∷◌, ◌++◌, take, drop, Option, Some, None, nat_eq, refl, ◌∙◌, ap}
-use Rattle.std.specs.Prelude.{if◌then◌else◌}
-use Rattle.vlog_meaning.specs.Scopes.{Names}
-use Rattle.vlog_effects.specs.LeftSides.{Part, Vector, parts_of, part_vector, parts_width, written}
-use Rattle.vlog_effects.specs.Steps.{Assigning, Selection, Steps, Done, Assign, Choose, Case, Refuse, Arms, Otherwise, Arm}
-use Rattle.vlog_effects.specs.Effects.{Values, Update, updated, updated_all, State, put, put_all, part_updates, updates_of, right_bits, assigned, holds, matches, effect, arm_effect, started}
-use Rattle.vlog_effects.specs.Latches.{Target, part_targets, parts_targets, targets, arms_targets, is_assigned}
-use Rattle.vlog_effects.specs.Laws.{ChangesOnlyTargets}
+use Rattle.vlog_effects.proofs.Common.{◌≡◌, ℕ, Bool, true, false, List, [], ◌∷◌, ◌++◌, take, drop, Option, Some, None, nat_eq, refl, ◌∙◌, ap, if◌then◌else◌, Names, Part, Vector, parts_of, part_vector}
+use Rattle.vlog_effects.proofs.Common.{parts_width, written, Assigning, Selection, Steps, Done, Assign, Choose, Case, Refuse, Arms, Otherwise, Arm, Values, Update, updated, updated_all, State, put}
+use Rattle.vlog_effects.proofs.Common.{put_all, part_updates, updates_of, right_bits, assigned, holds, matches, effect, arm_effect, started, Target, part_targets, parts_targets, targets, arms_targets}
+use Rattle.vlog_effects.proofs.Common.{is_assigned, ChangesOnlyTargets}
 use Rattle.vlog_effects.proofs.Bools.{or-left, or-right, or-same}
 
 -- neither of two lists of targets has the signal

@@ -1,3 +1,4 @@
+mod Common
 pub mod Bools
 pub mod Numbers
 pub mod Writing

@@ -1,9 +1,6 @@
 -- The turns of a loop, one at a time.
-use Rattle.std.proofs.Common.{◌≡◌, ℕ, zero, suc, List, [], Option, Some, ◌∙◌, ap}
-use Rattle.vlog_syntax.specs.declared.left_side.LeftSide.{out-LeftSide}
-use Rattle.vlog_meaning.specs.Scopes.{Names}
-use Rattle.vlog_effects.specs.Expressions.{constant_of, constant_faults}
-use Rattle.vlog_effects.specs.Steps.{Done, Refuse, Turns, Flaw, Loop, InNames, followed, turn_names, flaws_of, step_flaws, name_alone, tested, stepped, turns}
+use Rattle.vlog_effects.proofs.Common.{◌≡◌, ℕ, zero, suc, List, [], Option, Some, ◌∙◌, ap, out-LeftSide, Names, constant_of, constant_faults, Done, Refuse, Turns, Flaw, Loop, InNames, followed}
+use Rattle.vlog_effects.proofs.Common.{turn_names, flaws_of, step_flaws, name_alone, tested, stepped, turns}
 
 -- where the condition is 0 the loop has ended
 pub turns-end : (most : ℕ) (loop : Loop) (body : InNames) (names : Names) (v : ℕ) → constant_of (turn_names loop names v) 1 loop.condition ≡ Some zero → turns most loop body names v ≡ Done

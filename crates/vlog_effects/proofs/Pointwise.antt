@@ -1,12 +1,6 @@
 -- Whether a bit is covered, and whether it is read early, goes by itself for each bit.
-use Rattle.std.proofs.Common.{◌≡◌, ℕ, Bool, true, false, not, ◌&&◌, ◌||◌, List, [], ◌∷◌, refl, ap}
-use Rattle.vlog_syntax.specs.declared.expr.Expr.{Expr}
-use Rattle.vlog_meaning.specs.Scopes.{Names}
-use Rattle.vlog_meaning.specs.Senses.{Bits}
-use Rattle.vlog_effects.specs.Expressions.{reads}
-use Rattle.vlog_effects.specs.LeftSides.{Part, parts_of}
-use Rattle.vlog_effects.specs.Steps.{Selection, Steps, Done, Assign, Choose, Case, Refuse, Arms, Otherwise, Arm}
-use Rattle.vlog_effects.specs.Latches.{index_reads, parts_cover, covered, arms_covered, missed, all_missed, parts_missed, early, arms_early}
+use Rattle.vlog_effects.proofs.Common.{◌≡◌, ℕ, Bool, true, false, not, ◌&&◌, ◌||◌, List, [], ◌∷◌, refl, ap, Expr, Names, Bits, reads, Part, parts_of, Selection, Steps, Done, Assign, Choose, Case}
+use Rattle.vlog_effects.proofs.Common.{Refuse, Arms, Otherwise, Arm, index_reads, parts_cover, covered, arms_covered, missed, all_missed, parts_missed, early, arms_early}
 use Rattle.vlog_effects.proofs.Bools.{or-same, and-same, not-missing}
 
 missed-at : (names : Names) (e : Expr) (b c : Bits) (n i : ℕ) → b n i ≡ c n i → missed names e b n i ≡ missed names e c n i

@@ -1,14 +1,9 @@
 -- The loop of the examples, turn by turn.
-use Rattle.std.proofs.Common.{◌≡◌, ℕ, true, [], Some, ◌∙◌, ap}
-use Rattle.vlog_syntax.specs.declared.left_side.LeftSide.{out-LeftSide}
-use Rattle.vlog_meaning.specs.Scopes.{Names}
-use Rattle.vlog_meaning.proofs.Steps.{sense_name, sense_number, sense_bit_select, sense_binary}
-use Rattle.vlog_meaning.specs.Senses.{own}
+use Rattle.vlog_effects.proofs.Common.{◌≡◌, ℕ, true, [], Some, ◌∙◌, ap, out-LeftSide, Names, sense_name, sense_number, sense_bit_select, sense_binary, own, value, width_of, is_signed_of, constant_of}
+use Rattle.vlog_effects.proofs.Common.{constant_faults, select_base, Done, Loop, followed, turn_names, name_alone, step_flaws, turns, loop_steps, steps_of, k, names, place, named, start, condition}
+use Rattle.vlog_effects.proofs.Common.{turn, reversal, results_of, LoopReverses}
 use Rattle.vlog_meaning.specs.Answers.{least}
-use Rattle.vlog_effects.specs.Expressions.{value, width_of, is_signed_of, constant_of, constant_faults}
-use Rattle.vlog_effects.specs.LeftSides.{select_base}
-use Rattle.vlog_effects.specs.Steps.{Done, Loop, followed, turn_names, name_alone, step_flaws, turns, loop_steps, steps_of}
-use Rattle.vlog_effects.specs.Examples.{k, names, place, named, start, condition, step, turn, reversal, results_of, LoopReverses}
+use Rattle.vlog_effects.specs.Examples.{step}
 use Rattle.vlog_effects.proofs.Loops.{turns-end, turns-more}
 use Rattle.vlog_effects.proofs.Variants.{steps-loop}
 use Rattle.vlog_effects.proofs.Running.{steps-blocking}

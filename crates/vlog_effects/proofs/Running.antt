@@ -1,14 +1,8 @@
 -- What statements do, by their variants.
-use Rattle.std.proofs.Common.{◌≡◌, true, false, ◌∷◌, map, refl, sym, ◌∙◌, ap}
-use Rattle.vlog_syntax.specs.declared.stmt.Assignment.{Assignment}
-use Rattle.vlog_syntax.specs.declared.stmt.Stmt.{Stmt}
+use Rattle.vlog_effects.proofs.Common.{◌≡◌, true, false, ◌∷◌, map, refl, sym, ◌∙◌, ap, Assignment, Stmt, fold-roll-Stmt, Names, Steps, Done, Assign, Choose, Case, Refuse, InNames, Item, in_turn}
+use Rattle.vlog_effects.proofs.Common.{step_of, item_of, steps_of, assigning, assigned, effect, arm_effect, EffectsFollow, BlocksRun, ConditionalsRun, AssignmentsRun}
 use Rattle.vlog_syntax.specs.declared.stmt.Stmt.TheVariants.{BlockingAssignment, NonblockingAssignment, rolls-BlockingAssignment, rolls-NonblockingAssignment}
 use Rattle.vlog_syntax.specs.declared.stmt.Stmt.TheOpen as t
-use Rattle.vlog_syntax.specs.declared.stmt.Stmt.TheFolds.{fold-roll-Stmt}
-use Rattle.vlog_meaning.specs.Scopes.{Names}
-use Rattle.vlog_effects.specs.Steps.{Steps, Done, Assign, Choose, Case, Refuse, InNames, Item, in_turn, step_of, item_of, steps_of, assigning}
-use Rattle.vlog_effects.specs.Effects.{assigned, effect, arm_effect}
-use Rattle.vlog_effects.specs.Laws.{EffectsFollow, BlocksRun, ConditionalsRun, AssignmentsRun}
 use Rattle.vlog_effects.proofs.Variants.{steps-block, steps-conditional}
 
 pub effects-follow : EffectsFollow

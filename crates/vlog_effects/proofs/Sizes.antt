@@ -1,25 +1,10 @@
 -- The names that the statements of a process see have the signals of the process.
-use Rattle.std.proofs.Common.{◌≡◌, ℕ, zero, suc, Bool, true, false, List, [], ◌∷◌, map, Option, Some, None, sym, subst}
-use Rattle.std.specs.Prelude.{if◌then◌else◌}
-use Rattle.std.specs.Str.{bytes_eq}
-use Rattle.mcy_base.specs.declared.span.Span.{Span}
-use Rattle.mcy_base.specs.declared.word.Word.{Word}
-use Rattle.vlog_syntax.specs.declared.identifier.Identifier.{Identifier}
-use Rattle.vlog_syntax.specs.declared.expr.Expr.{Expr}
-use Rattle.vlog_syntax.specs.declared.left_side.LeftSide.{out-LeftSide}
-use Rattle.vlog_syntax.specs.declared.stmt.Assignment.{Assignment}
-use Rattle.vlog_syntax.specs.declared.stmt.CaseItem.{CaseItem}
-use Rattle.vlog_syntax.specs.declared.stmt.Stmt.{Stmt}
+use Rattle.vlog_effects.proofs.Common.{◌≡◌, ℕ, zero, suc, Bool, true, false, List, [], ◌∷◌, map, Option, Some, None, sym, subst, if◌then◌else◌, bytes_eq, Span, Word, Identifier, Expr, out-LeftSide}
+use Rattle.vlog_effects.proofs.Common.{Assignment, CaseItem, Stmt, Stmt-F, CaseItem-F, fold-roll-Stmt, fold-roll-CaseItem, ind-Stmt, map-Stmt, Decl, Signal, Constant, is_empty, Names, constant_of}
+use Rattle.vlog_effects.proofs.Common.{constant_faults, item_steps, Flaw, Turns, Selection, Steps, Done, Assign, Choose, Case, Refuse, Arms, Otherwise, Arm, InNames, Item, Loop, followed, in_turn}
+use Rattle.vlog_effects.proofs.Common.{refused, word_of, with_word, turn_names, flaws_of, step_flaws, tested, stepped, turns, max_turns, all_turns, looped, loop_steps, name_alone, done_by, default_of}
+use Rattle.vlog_effects.proofs.Common.{labelled, front, last_body, always, arms_of, names_all, chosen_arms, bodies_of, selection_of, step_of, item_of, steps_of}
 use Rattle.vlog_syntax.specs.declared.stmt.Stmt.TheOpen as t
-use Rattle.vlog_syntax.specs.declared.stmt.Stmt.TheOpen.{Stmt-F, CaseItem-F}
-use Rattle.vlog_syntax.specs.declared.stmt.Stmt.TheFolds.{fold-roll-Stmt, fold-roll-CaseItem, ind-Stmt, map-Stmt}
-use Rattle.vlog_meaning.specs.declared.scope.Decl.{Decl}
-use Rattle.vlog_meaning.specs.declared.scope.Decl.TheVariants.{Signal, Constant}
-use Rattle.vlog_meaning.specs.Senses.{is_empty}
-use Rattle.vlog_meaning.specs.Scopes.{Names}
-use Rattle.vlog_effects.specs.Expressions.{constant_of, constant_faults}
-use Rattle.vlog_effects.specs.Laws.{item_steps}
-use Rattle.vlog_effects.specs.Steps.{Flaw, Turns, Selection, Steps, Done, Assign, Choose, Case, Refuse, Arms, Otherwise, Arm, InNames, Item, Loop, followed, in_turn, refused, word_of, with_word, turn_names, flaws_of, step_flaws, tested, stepped, turns, max_turns, all_turns, looped, loop_steps, name_alone, done_by, default_of, labelled, front, last_body, always, arms_of, names_all, chosen_arms, bodies_of, selection_of, step_of, item_of, steps_of}
 
 -- a declared signal has this many bits
 abbrev pub IsSized : (ℕ → ℕ) → Option Decl → Type 0

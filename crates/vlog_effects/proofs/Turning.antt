@@ -1,16 +1,7 @@
 -- The names of a turn.
-use Rattle.std.proofs.Common.{◌≡◌, ℕ, ◌%◌, ◌^◌, ◌≤◌, Bool, true, false, Option, Some, None, nat_le, nat_lt, refl, ap}
-use Rattle.std.specs.Prelude.{if◌then◌else◌}
-use Rattle.std.specs.Str.{bytes_eq}
+use Rattle.vlog_effects.proofs.Common.{◌≡◌, ℕ, ◌%◌, ◌^◌, ◌≤◌, Bool, true, false, Option, Some, None, nat_le, nat_lt, refl, ap, if◌then◌else◌, bytes_eq, mod-lt, lt-ltb, le-leb, pow_pos, Word, Decl}
+use Rattle.vlog_effects.proofs.Common.{Constant, Loop, tested_word, word_of, with_word, HoldsValue, VariableIsConstant, OthersStay}
 use Rattle.std.specs.Cmp.Lexicographic.{bytes_decides}
-use Rattle.std.proofs.Math.Nat.{mod-lt}
-use Rattle.std.proofs.lemmas.Bool.{lt-ltb, le-leb}
-use Rattle.std.proofs.lemmas.Nat.{pow_pos}
-use Rattle.mcy_base.specs.declared.word.Word.{Word}
-use Rattle.vlog_meaning.specs.declared.scope.Decl.{Decl}
-use Rattle.vlog_meaning.specs.declared.scope.Decl.TheVariants.{Constant}
-use Rattle.vlog_effects.specs.Steps.{Loop, tested_word, word_of, with_word}
-use Rattle.vlog_effects.specs.Laws.{HoldsValue, VariableIsConstant, OthersStay}
 
 abbrev IsWord : ℕ → ℕ → Option Word → Type 0
 IsWord width bits (Some word) = (word.width ≡ width) × (word.bits ≡ bits)

@@ -1,16 +1,8 @@
 -- Without a latch a combinational process leaves the same from any values of the variables that it assigns.
-use Rattle.std.proofs.Common.{◌≡◌, ℕ, zero, suc, ◌<◌, ◌≤◌, Bool, true, false, not, ◌||◌, ◌⊎◌, List, [], ◌∷◌, ◌++◌, length, Option, Some, None, get_or, refl, sym, ◌∙◌, ap, subst, inl, inr, arith, ext_get_or}
-use Rattle.std.specs.Prelude.{if◌then◌else◌}
-use Rattle.std.proofs.lemmas.Bool.Decides.{eqb_tells, leb_tells}
-use Rattle.vlog_meaning.specs.declared.scope.Decl.{Decl}
-use Rattle.vlog_meaning.specs.declared.scope.Decl.TheVariants.{Signal, Constant}
-use Rattle.vlog_meaning.specs.Scopes.{Names}
-use Rattle.vlog_meaning.specs.Senses.{no_bits}
-use Rattle.vlog_effects.specs.LeftSides.{Part, parts_of, vector_of}
-use Rattle.vlog_effects.specs.Steps.{Steps, Done, Assign, Choose, Case, Refuse, Arms, Otherwise, Arm, steps_of}
-use Rattle.vlog_effects.specs.Effects.{Values, State, updated_all, settled, effect, started, left_by, IsBlocking, HasWidth}
-use Rattle.vlog_effects.specs.Latches.{covered, early, Target, part_targets, parts_targets, targets, arms_targets, is_assigned, some_bit, is_latch, latches, earlier, first_of}
-use Rattle.vlog_effects.specs.Laws.{LeavesOne}
+use Rattle.vlog_effects.proofs.Common.{◌≡◌, ℕ, zero, suc, ◌<◌, ◌≤◌, Bool, true, false, not, ◌||◌, ◌⊎◌, List, [], ◌∷◌, ◌++◌, length, Option, Some, None, get_or, refl, sym, ◌∙◌, ap, subst, inl, inr}
+use Rattle.vlog_effects.proofs.Common.{arith, ext_get_or, if◌then◌else◌, eqb_tells, leb_tells, Decl, Signal, Constant, Names, no_bits, Part, parts_of, vector_of, Steps, Done, Assign, Choose, Case}
+use Rattle.vlog_effects.proofs.Common.{Refuse, Arms, Otherwise, Arm, steps_of, Values, State, updated_all, settled, effect, started, left_by, IsBlocking, HasWidth, covered, early, Target}
+use Rattle.vlog_effects.proofs.Common.{part_targets, parts_targets, targets, arms_targets, is_assigned, some_bit, is_latch, latches, earlier, first_of, LeavesOne}
 use Rattle.vlog_effects.proofs.Bools.{or-left, or-right, or-same, not-false}
 use Rattle.vlog_effects.proofs.Sizes.{IsSized, AreSized, Sized, SizedArms, sized-steps}
 use Rattle.vlog_effects.proofs.Alike.{Alike, alike-effect}

@@ -1,20 +1,9 @@
 -- The steps of a statement, by its variant.
-use Rattle.std.proofs.Common.{◌≡◌, List, Option, Some, None, map, refl, sym, ◌∙◌, ap}
+use Rattle.vlog_effects.proofs.Common.{◌≡◌, List, Option, Some, None, map, refl, sym, ◌∙◌, ap, Span, Identifier, Expr, out-LeftSide, Assignment, CaseKind, CaseItem, Stmt, fold-roll-Stmt, map-Stmt}
+use Rattle.vlog_effects.proofs.Common.{Names, item_steps, Choose, Done, InNames, Item, in_turn, step_of, item_of, steps_of, else_steps, case_steps, loop_steps, name_alone}
 use Rattle.std.specs.Option.{option_map}
-use Rattle.mcy_base.specs.declared.span.Span.{Span}
-use Rattle.vlog_syntax.specs.declared.identifier.Identifier.{Identifier}
-use Rattle.vlog_syntax.specs.declared.expr.Expr.{Expr}
-use Rattle.vlog_syntax.specs.declared.left_side.LeftSide.{out-LeftSide}
-use Rattle.vlog_syntax.specs.declared.stmt.Assignment.{Assignment}
-use Rattle.vlog_syntax.specs.declared.stmt.CaseKind.{CaseKind}
-use Rattle.vlog_syntax.specs.declared.stmt.CaseItem.{CaseItem}
-use Rattle.vlog_syntax.specs.declared.stmt.Stmt.{Stmt}
 use Rattle.vlog_syntax.specs.declared.stmt.Stmt.TheVariants.{SeqBlock, Conditional, Case, For, rolls-SeqBlock, rolls-Conditional, rolls-Case, rolls-For}
 use Rattle.vlog_syntax.specs.declared.stmt.Stmt.TheOpen as t
-use Rattle.vlog_syntax.specs.declared.stmt.Stmt.TheFolds.{fold-roll-Stmt, map-Stmt}
-use Rattle.vlog_meaning.specs.Scopes.{Names}
-use Rattle.vlog_effects.specs.Laws.{item_steps}
-use Rattle.vlog_effects.specs.Steps.{Choose, Done, InNames, Item, in_turn, step_of, item_of, steps_of, else_steps, case_steps, loop_steps, name_alone}
 
 pub steps-block : (at : Span) (label : Option Identifier) (body : List Stmt) (names : Names) → steps_of (SeqBlock at label body) names ≡ in_turn (map steps_of body) names
 steps-block at label body names =

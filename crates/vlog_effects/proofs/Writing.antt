@@ -1,9 +1,7 @@
 -- What is written at places, into bits that are partly the same.
-use Rattle.std.proofs.Common.{◌≡◌, ℕ, zero, suc, ◌≤◌, ℤ, pos, ◌+ℤ◌, Bool, true, false, List, [], ◌∷◌, length, Option, Some, None, get_or, set, refl, sym, ◌∙◌, ap, subst, inl, inr, arith}
+use Rattle.vlog_effects.proofs.Common.{◌≡◌, ℕ, zero, suc, ◌≤◌, ℤ, pos, ◌+ℤ◌, Bool, true, false, List, [], ◌∷◌, length, Option, Some, None, get_or, set, refl, sym, ◌∙◌, ap, subst, inl, inr, arith}
+use Rattle.vlog_effects.proofs.Common.{eqb_tells, Vector, bits_from, written, stands_in}
 use Rattle.std.proofs.lemmas.List.{length-set}
-use Rattle.std.proofs.lemmas.Bool.Decides.{eqb_tells}
-use Rattle.vlog_effects.specs.LeftSides.{Vector, bits_from, written}
-use Rattle.vlog_effects.specs.Latches.{stands_in}
 
 set-at : (xs ys : List Bool) (j : ℕ) (v : Bool) (i : ℕ) → length xs ≡ length ys → get_or xs i false ≡ get_or ys i false → get_or (set xs j v) i false ≡ get_or (set ys j v) i false
 set-at [] [] j v i l e = refl

@@ -1,7 +1,8 @@
 -- Latches (IEEE 1364-2005, 9.2 and 9.7): a combinational process leaves or reads a bit of a variable that it assigns, where
 -- some path has not assigned it.
-use Rattle.std.specs.Prelude.{◌==◌, nat_lt, ℕ, zero, suc, Bool, true, false, not, ◌&&◌, ◌||◌, List, [], ◌∷◌, ◌++◌, Option, Some, None, nat_eq, if◌then◌else◌}
+use Rattle.std.specs.Prelude.{ℕ, zero, suc, Bool, true, false, not, ◌&&◌, ◌||◌, List, [], ◌∷◌, ◌++◌, Option, Some, None, nat_eq, if◌then◌else◌}
 use Rattle.mcy_base.specs.declared.span.Span.{Span}
+use Rattle.mcy_base.specs.Places.{stands_before}
 use Rattle.vlog_syntax.specs.declared.expr.Expr.{Expr}
 use Rattle.vlog_meaning.specs.Scopes.{Names}
 use Rattle.vlog_meaning.specs.Senses.{Bits, no_bits, either}
@@ -125,9 +126,6 @@ is_latch steps x = some_bit x.width (λ i. not (covered steps no_bits x.number i
 abbrev pub latches : Steps → List Target → List Target
 latches steps [] = []
 latches steps (x ∷ more) = if is_latch steps x then x ∷ latches steps more else latches steps more
-
-abbrev pub stands_before : Span → Span → Bool
-stands_before p q = if p.file == q.file then (if p.line == q.line then nat_lt p.col q.col else nat_lt p.line q.line) else nat_lt p.file q.file
 
 abbrev pub earlier : Target → Option Target → Option Target
 earlier x None = Some x

@@ -1,22 +1,14 @@
 -- Where conditions are open at a place, their ends stand behind it.
-use Rattle.std.proofs.Common.{◌≡◌, ◌⊎◌, inl, inr, ℕ, zero, suc, Bool, true, false, not, cond, ◌&&◌, ◌==◌, List, [], ◌∷◌, ◌++◌, Option, Some, None, length, refl, sym, ◌∙◌, subst, arith}
-use Rattle.mcy_base.specs.declared.span.Span.{Span}
-use Rattle.vlog_token.specs.declared.token.Token.{Token}
+use Rattle.vlog_expand.proofs.Common.{◌≡◌, ◌⊎◌, inl, inr, ℕ, zero, suc, Bool, true, false, not, cond, ◌&&◌, ◌==◌, List, [], ◌∷◌, ◌++◌, Option, Some, None, length, refl, sym, ◌∙◌, subst, arith, Span}
+use Rattle.vlog_expand.proofs.Common.{Token, ParseError, Unexpected, is_directive, is_macro_name, is_name, is_shown, word_of, Turn, Ends, Shows, Leads, turn, turn_at, length-append, length-take}
+use Rattle.vlog_expand.proofs.Common.{behind_line, is_on, rest_of_line, after_part, after_part_from, belongs, is_closed, is_closed_from, Definitions, ConditionsHaveTheirEnds, IsReached, here}
+use Rattle.vlog_expand.proofs.Common.{behind_token, behind_directive, State, Move, Passes, Stops, move_by, with_name, unless_fault, fault_in, has_parameters, define_move, undef_move, condition_move}
+use Rattle.vlog_expand.proofs.Common.{is_first, chosen_part, other_part, other_part_by, innermost, outer, else_move, behind_else, behind_else_by, endif_move}
 use Rattle.vlog_expand.specs.declared.word.Word.{Word}
 use Rattle.vlog_expand.specs.declared.word.Word.TheVariants.{Plain, Use, Define, Undef, Ifdef, Ifndef, Else, Elsif, Endif, Dropped, Include, Refused}
-use Rattle.vlog_expand.specs.declared.error.ParseError.{ParseError}
-use Rattle.vlog_expand.specs.declared.error.ParseError.TheVariants.{Unexpected}
 use Rattle.vlog_token.specs.declared.token.TokenKind.{TokenKind}
 use Rattle.vlog_token.specs.declared.token.TokenKind.TheVariants.{Directive}
-use Rattle.vlog_expand.specs.Words.{is_directive, is_macro_name, is_name, is_shown, word_of}
-use Rattle.vlog_expand.specs.Files.{Turn, Ends, Shows, Leads, turn, turn_at}
 use Rattle.std.proofs.lemmas.Bool.{false≢true}
-use Rattle.std.proofs.lemmas.List.{length-append, length-take}
-use Rattle.vlog_expand.specs.Lines.{behind_line, is_on, rest_of_line}
-use Rattle.vlog_expand.specs.Conditions.{after_part, after_part_from, belongs, is_closed, is_closed_from}
-use Rattle.vlog_expand.specs.Definitions.{Definitions}
-use Rattle.vlog_expand.specs.Laws.{ConditionsHaveTheirEnds, IsReached, here, behind_token, behind_directive}
-use Rattle.vlog_expand.specs.Moves.{State, Move, Passes, Stops, move_by, with_name, unless_fault, fault_in, has_parameters, define_move, undef_move, condition_move, is_first, chosen_part, other_part, other_part_by, innermost, outer, else_move, behind_else, behind_else_by, endif_move}
 
 -- the rest of a line plays no part
 line-passed-at : (d line : ℕ) (t : Token) (ts : List Token) (b : Bool) → is_on line t ≡ b → is_closed_from d (Some line) ts ≡ is_closed_from d None (behind_line line ts) → is_closed_from d (Some line) (t ∷ ts) ≡ is_closed_from d None (behind_line line (t ∷ ts))
@@ -121,7 +113,7 @@ if-closes : (b : Bool) (m n : Move) → (b ≡ true → MoveCloses m) → (b ≡
 if-closes true m n f g = f refl
 if-closes false m n f g = g refl
 
-and-right : (a b : Bool) → (a && b) ≡ true → b ≡ true
+pub and-right : (a b : Bool) → (a && b) ≡ true → b ≡ true
 and-right true b h = h
 and-right false true h = refl
 and-right false false h = h

@@ -1,14 +1,7 @@
 -- What a file comes to, turn by turn.
-use Rattle.std.proofs.Common.{◌≡◌, ℕ, Bool, true, false, List, [], ◌∷◌, ◌++◌, length, refl, sym, ap, ◌∙◌, subst, inl, inr, arith, append_assoc}
-use Rattle.std.proofs.lemmas.List.{append-nil}
-use Rattle.mcy_base.specs.declared.span.Span.{Span}
-use Rattle.vlog_token.specs.declared.token.Token.{Token}
-use Rattle.vlog_expand.specs.declared.error.ParseError.{ParseError}
-use Rattle.vlog_expand.specs.Words.{is_shown, word_of}
-use Rattle.vlog_expand.specs.Definitions.{Definitions}
-use Rattle.vlog_expand.specs.Uses.{Outcome, Gives, Refuses, behind, expanded, IsRefusal}
-use Rattle.vlog_expand.specs.Moves.{State, Passes, IsStop, move_by}
-use Rattle.vlog_expand.specs.Files.{Ends, Shows, Leads, turn, Comes, ends, stops, passes, refuses, shows, IsRefused, LeadsOn, ComesBehind}
+use Rattle.vlog_expand.proofs.Common.{◌≡◌, ℕ, Bool, true, false, List, [], ◌∷◌, ◌++◌, length, refl, sym, ap, ◌∙◌, subst, inl, inr, arith, append_assoc, append-nil, Span, Token, ParseError, is_shown}
+use Rattle.vlog_expand.proofs.Common.{word_of, Definitions, Outcome, Gives, Refuses, behind, expanded, IsRefusal, State, Passes, IsStop, move_by, Ends, Shows, Leads, turn, Comes, ends, stops, passes}
+use Rattle.vlog_expand.proofs.Common.{refuses, shows, IsRefused, LeadsOn, ComesBehind}
 
 module _ (end : Span) (macros : Definitions) (conditions : List Bool) where
   -- the place before these tokens

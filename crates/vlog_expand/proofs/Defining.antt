@@ -1,14 +1,12 @@
 -- What a map of texts defines after a change.
-use Rattle.std.proofs.Common.{◌≡◌, ℕ, Bool, true, false, cond, List, Option, option_map, refl, ap, ◌∙◌, Bor}
+use Rattle.vlog_expand.proofs.Common.{◌≡◌, ℕ, Bool, true, false, cond, List, Option, option_map, refl, ap, ◌∙◌, Bor, Token, Definitions, definitions_of, no_macros, with_text}
 use Rattle.std.specs.Str.{bytes_eq}
 use Rattle.std.specs.Cmp.Lexicographic.{slice_cmp}
 use Rattle.std.specs.Ordering.{nat_cmp}
 use Rattle.std.specs.BTreeMap.{BTreeMap, IsEmpty, get_by, is_at, UpdatesBy}
 use Rattle.std.specs.Map.{lookup}
 use Rattle.std.proofs.lemmas.Map.Text.{btree_map_updates_str}
-use Rattle.vlog_token.specs.declared.token.Token.{Token}
 use Rattle.vlog_expand.specs.declared.macros.Macros.{Macros}
-use Rattle.vlog_expand.specs.Definitions.{Definitions, definitions_of, no_macros, with_text}
 
 map-cond : (b : Bool) (w x : Option (Bor (List Token))) → option_map (λ text. text.now) (cond b w x) ≡ cond b (option_map (λ text. text.now) w) (option_map (λ text. text.now) x)
 map-cond true w x = refl

@@ -1,3 +1,4 @@
+mod Common
 pub mod Defining
 pub mod Using
 pub mod Coming

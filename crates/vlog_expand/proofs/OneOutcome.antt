@@ -1,10 +1,6 @@
 -- A file comes to one outcome.
-use Rattle.std.proofs.Common.{◌≡◌, ℕ, [], refl, sym, ap, ◌∙◌, subst}
-use Rattle.mcy_base.specs.declared.span.Span.{Span}
-use Rattle.vlog_expand.specs.Uses.{Outcome, Gives, Refuses, behind, expanded}
-use Rattle.vlog_expand.specs.Moves.{State, Passes, Stops}
-use Rattle.vlog_expand.specs.Files.{Turn, Ends, Shows, Leads, turn, Comes, ends, stops, passes, refuses, shows}
-use Rattle.vlog_expand.specs.Laws.{FilesComeToOneOutcome}
+use Rattle.vlog_expand.proofs.Common.{◌≡◌, ℕ, [], refl, sym, ap, ◌∙◌, subst, Span, Outcome, Gives, Refuses, behind, expanded, State, Passes, Stops, Turn, Ends, Shows, Leads, turn, Comes, ends, stops}
+use Rattle.vlog_expand.proofs.Common.{passes, refuses, shows, FilesComeToOneOutcome}
 
 -- what a file comes to where its first token comes to this
 abbrev GivenAt : Span → State → Outcome → Outcome → Type 0

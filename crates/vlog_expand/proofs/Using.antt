@@ -1,14 +1,9 @@
 -- What a token comes to, case by case.
-use Rattle.std.proofs.Common.{◌≡◌, ◌≢◌, ◌-◌, ◌<◌, ℕ, zero, suc, true, false, List, [], ◌∷◌, ◌++◌, Some, None, length, drop, refl, ap, ◌∙◌, inl, inr, arith, sub-one, ◌≤◌, get_or, drop-cons}
-use Rattle.std.proofs.lemmas.List.{append-nil, drop_all}
-use Rattle.vlog_token.specs.declared.token.Token.{Token}
+use Rattle.vlog_expand.proofs.Common.{◌≡◌, ◌≢◌, ◌-◌, ◌<◌, ℕ, zero, suc, true, false, List, [], ◌∷◌, ◌++◌, Some, None, length, drop, refl, ap, ◌∙◌, inl, inr, arith, sub-one, ◌≤◌, get_or, drop-cons}
+use Rattle.vlog_expand.proofs.Common.{append-nil, drop_all, Token, ParseError, Unsupported, UnknownMacro, TooMany, is_use, name_of, word_of, Definitions, Outcome, Gives, Refuses, behind, followed}
+use Rattle.vlog_expand.proofs.Common.{in_order, token_given, use_replaced, expanded, IsRefusal}
 use Rattle.mcy_base.specs.declared.kind.Kind.TheVariants.{Tokens}
 use Rattle.vlog_syntax.specs.declared.feature.Feature.TheVariants.{MacroDepth}
-use Rattle.vlog_expand.specs.declared.error.ParseError.{ParseError}
-use Rattle.vlog_expand.specs.declared.error.ParseError.TheVariants.{Unsupported, UnknownMacro, TooMany}
-use Rattle.vlog_expand.specs.Words.{is_use, name_of, word_of}
-use Rattle.vlog_expand.specs.Definitions.{Definitions}
-use Rattle.vlog_expand.specs.Uses.{Outcome, Gives, Refuses, behind, followed, in_order, token_given, use_replaced, expanded, IsRefusal}
 
 -- a token that is no use is given
 pub expanded-given : (depth : ℕ) (macros : Definitions) (t : Token) (n : ℕ) → is_use (word_of t) ≡ false → expanded depth macros t n ≡ token_given t n

@@ -19,6 +19,8 @@ no_macros name = None
 unfoldable pub with_text : Definitions → List ℕ → Option (List Token) → Definitions
 with_text macros name text = update bytes_eq macros name text
 
+-- For proofs alone.
+
 -- what a map of texts defines
 unfoldable pub definitions_of : Macros → Definitions
 definitions_of m name = option_map (λ text. text.now) (get_by (λ k. slice_cmp nat_cmp name k.now) m.texts)

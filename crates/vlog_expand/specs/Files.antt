@@ -46,6 +46,8 @@ IsCarriedOut end tokens limit given left = Comes end (start tokens) limit (Gives
 abbrev pub IsRefused : Span → State → ℕ → ParseError → Type 0
 IsRefused end s n e = (e ≡ Memory) ⊎ Comes end s n (Refuses e)
 
+-- For proofs alone.
+
 -- With these tokens given before, the file comes to the outcome from the place on.
 abbrev pub ComesBehind : List Token → Span → State → ℕ → Outcome → Type 0
 ComesBehind before end s n o = (p : Outcome) × Comes end s n p × (behind before p ≡ o)

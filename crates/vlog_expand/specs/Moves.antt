@@ -30,11 +30,6 @@ abbrev pub with_name : Span → List Token → (Token → List Token → Move) �
 with_name end [] go = Stops (Unexpected end)
 with_name end (t ∷ ts) go = if is_name t.kind then go t ts else Stops (Unexpected t.span)
 
--- why no name is taken
-abbrev pub IsNameFault : Span → List Token → ParseError → Type 0
-IsNameFault end [] e = e ≡ Unexpected end
-IsNameFault end (t ∷ ts) e = (is_name t.kind ≡ false) × (e ≡ Unexpected t.span)
-
 -- `define. Its name stands on its line, and its text is the rest of the line. A directive in the text is refused.
 abbrev pub text_fault : Word → Span → Option ParseError
 text_fault Plain at = None
@@ -147,6 +142,13 @@ move_by Include end macros conditions at rest = Stops (Unsupported at.span Inclu
 move_by Elsif end macros conditions at rest = Stops (Unsupported at.span DirectiveName)
 move_by Refused end macros conditions at rest = Stops (Unsupported at.span DirectiveName)
 move_by _ end macros conditions at rest = Passes (record { macros = macros; conditions = conditions; rest = rest })
+
+-- For proofs alone.
+
+-- why no name is taken
+abbrev pub IsNameFault : Span → List Token → ParseError → Type 0
+IsNameFault end [] e = e ≡ Unexpected end
+IsNameFault end (t ∷ ts) e = (is_name t.kind ≡ false) × (e ≡ Unexpected t.span)
 
 -- The directives so far, with the tokens behind them, are this place.
 abbrev pub state_of : Reading → List Token → State

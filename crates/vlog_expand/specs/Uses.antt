@@ -44,6 +44,8 @@ unfoldable pub expanded : ℕ → Definitions → Token → ℕ → Outcome
 expanded zero macros t n = if is_use (word_of t) then Refuses (Unsupported t.span MacroDepth) else token_given t n
 expanded (suc depth) macros t n = if is_use (word_of t) then use_replaced (macros (name_of t)) (expanded depth macros) t n else token_given t n
 
+-- For proofs alone.
+
 -- This refusal is the outcome, or there was no memory.
 abbrev pub IsRefusal : Outcome → ParseError → Type 0
 IsRefusal o e = (e ≡ Memory) ⊎ (o ≡ Refuses e)

@@ -1,14 +1,7 @@
 -- Tokens have one answer.
-use Rattle.std.proofs.Common.{◌≡◌, ℕ, zero, suc, ◌+◌, ◌-◌, ◌<◌, ◌≤◌, List, [], ◌∷◌, ◌++◌, length, take, drop, Option, Some, None, ◌⊎◌, inl, inr, refl, sym, ap, ◌∙◌, append_assoc, arith}
-use Rattle.std.proofs.lemmas.Bool.{cases_lt}
-use Rattle.std.proofs.lemmas.List.{append-nil, length-take-le, length-drop, take-append-drop}
-use Rattle.std.proofs.Math.Seq.{take-length}
-use Rattle.vlog_grammar.specs.declared.step.Token.{Token}
-use Rattle.vlog_syntax.specs.declared.feature.Feature.{Feature}
-use Rattle.vlog_grammar.specs.declared.stop.Stop.{Stop}
-use Rattle.vlog_grammar.specs.declared.stop.Stop.TheVariants.{Unexpected, Unsupported}
-use Rattle.vlog_grammar.specs.Trees.{Trees, tokens_of, refusals_of, next_of}
-use Rattle.vlog_grammar.specs.Reading.{IsText, none_refused, AreTreesOf, NoneGoesOn, IsRefused, IsUnexpectedAt, IsRefusedAt, IsStopAt, IsStop, named, first_of}
+use Rattle.vlog_grammar.proofs.Common.{◌≡◌, ℕ, zero, suc, ◌+◌, ◌-◌, ◌<◌, ◌≤◌, List, [], ◌∷◌, ◌++◌, length, take, drop, Option, Some, None, ◌⊎◌, inl, inr, refl, sym, ap, ◌∙◌, append_assoc, arith}
+use Rattle.vlog_grammar.proofs.Common.{cases_lt, append-nil, length-take-le, length-drop, take-append-drop, take-length, Token, Feature, Stop, Unexpected, Unsupported, Trees, tokens_of, refusals_of}
+use Rattle.vlog_grammar.proofs.Common.{next_of, IsText, none_refused, AreTreesOf, NoneGoesOn, IsRefused, IsUnexpectedAt, IsRefusedAt, IsStopAt, IsStop, named, first_of}
 use Rattle.vlog_grammar.proofs.Reach.{none_refused-append}
 use Rattle.vlog_grammar.proofs.Unique.{texts_refused_alike}
 

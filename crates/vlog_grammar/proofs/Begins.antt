@@ -1,32 +1,8 @@
 -- What the tokens of a row begin with.
-use Rattle.std.proofs.Common.{◌≡◌, Bool, true, false, ◌&&◌, ◌||◌, not, List, [], ◌∷◌, ◌++◌, Option, Some, ◌⊎◌, inl, inr, refl, sym, ap, subst, ◌∙◌, append_assoc}
-use Rattle.vlog_grammar.specs.declared.step.Token.{Token}
-use Rattle.vlog_syntax.specs.declared.feature.Feature.{Feature}
-use Rattle.vlog_grammar.specs.declared.class.Class.{Class}
-use Rattle.vlog_grammar.specs.declared.class.Class.TheVariants.{Finish}
-use Rattle.vlog_grammar.specs.declared.rule.Kind.{Kind}
-use Rattle.vlog_grammar.specs.declared.rule.Rule.{Rule}
-use Rattle.vlog_grammar.specs.declared.table.Symbol.{Symbol}
-use Rattle.vlog_grammar.specs.declared.table.Symbol.TheVariants.{Is, Refused, Of}
-use Rattle.vlog_grammar.specs.Choice.{choice}
-use Rattle.vlog_grammar.specs.Grammar.{kind_of, parts_of, is_avoided}
-use Rattle.vlog_grammar.specs.Trees.{Trees, Nil, Leaf, Node, tokens_of, next_of, Fits, Derives}
-use Rattle.vlog_grammar.specs.Machine.{IsFollowed, AllFollowed}
-use Rattle.vlog_grammar.specs.Sets.{is_null}
-use Rattle.vlog_grammar.specs.Look.{is_same, is_first, is_follow, is_finish, can_vanish, can_begin, can_come}
+use Rattle.vlog_grammar.proofs.Common.{◌≡◌, Bool, true, false, ◌&&◌, ◌||◌, not, List, [], ◌∷◌, ◌++◌, Option, Some, ◌⊎◌, inl, inr, refl, sym, ap, subst, ◌∙◌, append_assoc, Token, Feature, Class}
+use Rattle.vlog_grammar.proofs.Common.{Finish, Kind, Rule, Symbol, Is, Refused, Of, choice, kind_of, parts_of, is_avoided, Trees, Nil, Leaf, Node, tokens_of, next_of, Fits, Derives, IsFollowed}
+use Rattle.vlog_grammar.proofs.Common.{AllFollowed, is_null, is_same, is_first, is_follow, is_finish, can_vanish, can_begin, can_come, or_left, or_right, and_from}
 use Rattle.vlog_grammar.proofs.Passes.{first_closed, null_closed, follow_closed, follows_within, implies, implied, and_left, and_right, calls_for, is_chosen, finish_is_finish, is_same-refl}
-
-pub or_left : (a b : Bool) → a ≡ true → (a || b) ≡ true
-or_left true b h = refl
-or_left false b h = absurd cc
-
-pub or_right : (a b : Bool) → b ≡ true → (a || b) ≡ true
-or_right true b h = refl
-or_right false b h = h
-
-pub and_both : (a b : Bool) → a ≡ true → b ≡ true → (a && b) ≡ true
-and_both true b h k = k
-and_both false b h k = absurd cc
 
 -- the tokens p of a row for ss, with `after` behind: what they begin with
 abbrev pub Begins : List Symbol → List Token → List Token → Type 0
@@ -43,9 +19,9 @@ node_begins r ss p q after (inl h) second =
     inl (or_left _ _ (first_closed r _ (subst (λ w. can_begin (parts_of r) w ≡ true) e h)))
 node_begins r ss p q after (inr h) (inl k) =
     let e : next_of (q ++ after) ≡ next_of ((p ++ q) ++ after) = ap (λ (w : List Token). next_of ((w ++ q) ++ after)) (sym h.0) in
-    inl (or_right (is_first (kind_of r) _) _ (and_both _ _ (null_closed r h.1) (subst (λ w. can_begin ss w ≡ true) e k)))
+    inl (or_right (is_first (kind_of r) _) _ (and_from _ _ (null_closed r h.1) (subst (λ w. can_begin ss w ≡ true) e k)))
 node_begins r ss p q after (inr h) (inr k) =
-    inr (ap (λ (w : List Token). w ++ q) h.0 ∙ k.0, and_both _ _ (null_closed r h.1) k.1)
+    inr (ap (λ (w : List Token). w ++ q) h.0 ∙ k.0, and_from _ _ (null_closed r h.1) k.1)
 
 pub begins : (gs : List Symbol) (f : Trees) (after : List Token) → Derives gs f after → Begins gs (tokens_of f) after
 begins [] Nil after d = inr (refl, refl)
@@ -64,7 +40,7 @@ begins_come : (ss : List Symbol) (p : List Token) → Begins ss p [] → can_com
 begins_come ss p (inl h) = or_left _ _ h
 begins_come ss p (inr h) =
     let e : Finish ≡ next_of (p ++ []) = ap (λ (w : List Token). next_of (w ++ [])) (sym h.0) in
-    or_right (can_begin ss _) _ (and_both _ _ h.1 (subst (λ w. is_finish w ≡ true) e finish_is_finish))
+    or_right (can_begin ss _) _ (and_from _ _ h.1 (subst (λ w. is_finish w ≡ true) e finish_is_finish))
 
 -- which production a tree at the front has
 calls : (r : Rule) (ss : List Symbol) (p q : List Token) → Begins (parts_of r) p (q ++ []) → Begins ss q [] → is_avoided r (next_of (q ++ [])) ≡ false → IsFollowed (Of (kind_of r)) ss → calls_for r (next_of ((p ++ q) ++ [])) ≡ true
@@ -76,7 +52,7 @@ calls r ss p q (inr h) second avoided followed =
     let come = begins_come ss q second in
     let unavoided : not (is_avoided r (next_of (q ++ []))) ≡ true = ap not avoided in
     subst (λ w. calls_for r w ≡ true) e
-    (or_right (can_begin (parts_of r) _) _ (and_both _ _ h.1 (and_both _ _ (followed _ come) unavoided)))
+    (or_right (can_begin (parts_of r) _) _ (and_from _ _ h.1 (and_from _ _ (followed _ come) unavoided)))
 
 pub front_is_chosen : (g : Symbol) (gs : List Symbol) (r : Rule) (parts f : Trees) → Derives (g ∷ gs) (Node r parts f) [] → AllFollowed (g ∷ gs) → choice (kind_of r) (next_of ((tokens_of parts ++ tokens_of f) ++ [])) ≡ Some r
 front_is_chosen g gs r parts f d followed =

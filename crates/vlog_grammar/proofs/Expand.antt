@@ -1,23 +1,10 @@
 -- One step of the reader: a production in the place of a kind.
-use Rattle.std.proofs.Common.{◌≡◌, Bool, true, false, List, [], ◌∷◌, ◌++◌, Option, Some, refl, sym, ap, subst, ◌∙◌, append_assoc}
-use Rattle.std.proofs.lemmas.List.{append-nil}
-use Rattle.vlog_grammar.specs.declared.step.Token.{Token}
-use Rattle.vlog_grammar.specs.declared.step.Step.{Step}
-use Rattle.vlog_grammar.specs.declared.step.Step.TheVariants.{Begin}
-use Rattle.vlog_syntax.specs.declared.feature.Feature.{Feature}
-use Rattle.vlog_grammar.specs.declared.class.Class.{Class}
-use Rattle.vlog_grammar.specs.declared.rule.Kind.{Kind}
-use Rattle.vlog_grammar.specs.declared.rule.Rule.{Rule}
-use Rattle.vlog_grammar.specs.declared.table.Symbol.{Symbol}
-use Rattle.vlog_grammar.specs.declared.table.Symbol.TheVariants.{Is, Refused, Of}
-use Rattle.vlog_grammar.specs.Choice.{choice}
-use Rattle.vlog_grammar.specs.Grammar.{kind_of, parts_of, is_avoided}
-use Rattle.vlog_grammar.specs.Trees.{Trees, Nil, Leaf, Node, tokens_of, refusals_of, steps_of, next_of, Fits, Derives}
-use Rattle.vlog_grammar.specs.Look.{is_safe, all_safe, rest_of}
+use Rattle.vlog_grammar.proofs.Common.{◌≡◌, true, false, List, [], ◌∷◌, ◌++◌, Option, Some, refl, sym, ap, subst, ◌∙◌, append_assoc, append-nil, Token, Step, Begin, Feature, Class, Kind, Rule, Symbol}
+use Rattle.vlog_grammar.proofs.Common.{Is, Refused, Of, choice, kind_of, parts_of, is_avoided, Trees, Nil, Leaf, Node, tokens_of, refusals_of, steps_of, next_of, Fits, Derives, is_safe, all_safe}
+use Rattle.vlog_grammar.proofs.Common.{rest_of, AllFollowed, Widens, Narrows, Expands, false_from_ne_true, and_from}
 use Rattle.vlog_grammar.proofs.Passes.{chosen, avoided_is_empty, is_empty, and_left, and_right, rest_is_safe}
 use Rattle.vlog_grammar.proofs.Rows.{◌⊕◌, split, joined, tokens-join, refusals-join, steps-join}
-use Rattle.vlog_grammar.specs.Machine.{AllFollowed, Widens, Narrows, Expands}
-use Rattle.vlog_grammar.proofs.Begins.{front_is_chosen, expanded_followed, and_both}
+use Rattle.vlog_grammar.proofs.Begins.{front_is_chosen, expanded_followed}
 
 pub expands_none : (y : Class) (old : List Symbol) → AllFollowed old → all_safe (rest_of old) ≡ true → Expands y old old []
 expands_none y old followed safe = record {
@@ -27,10 +14,6 @@ expands_none y old followed safe = record {
   safe = safe;
 }
 
-pub refute : (b : Bool) → (b ≡ true → ⊥) → b ≡ false
-refute true h = absurd (h refl)
-refute false h = refl
-
 nothing_derives : (ss : List Symbol) (f : Trees) (after : List Token) → is_empty ss ≡ true → Derives ss f after → f ≡ Nil
 nothing_derives [] Nil after e d = refl
 nothing_derives [] (Leaf t x f) after e d = absurd d
@@ -39,7 +22,7 @@ nothing_derives (s ∷ ss) f after e d = absurd cc
 
 unavoided : (r : Rule) (y : Class) (parts back : Trees) (after : List Token) → is_avoided r y ≡ false → Derives (parts_of r) parts after → next_of (tokens_of (parts ⊕ back)) ≡ y → is_avoided r (next_of (tokens_of back ++ [])) ≡ false
 unavoided r y parts back after well d e =
-    refute _ (λ h.
+    false_from_ne_true _ (λ h.
     let nil : parts ≡ Nil = nothing_derives (parts_of r) parts after (and_left _ _ (avoided_is_empty r _ h)) d in
     let same : next_of (tokens_of back ++ []) ≡ y = ap next_of (append-nil (tokens_of back)) ∙ ap (λ (p : Trees). next_of (tokens_of (p ⊕ back))) (sym nil) ∙ e in
     let avoided : is_avoided r y ≡ true = ap (is_avoided r) (sym same) ∙ h in
@@ -62,7 +45,7 @@ tree_back old gs g added k r y up is_kind choose h d e =
       steps = w.steps ∙ ap (λ (s : List Step). added ++ Begin r ∷ s) (sym (steps-join p.front p.back) ∙ ap steps_of (sym p.are)) ∙ sym (append_assoc added (Begin r ∷ []) (steps_of h));
     }
 
-leaf_of_kind : (s : Symbol) (k : Kind) (t : Token) (x : Option Feature) → s ≡ Of k → Fits s t x → ⊥
+pub leaf_of_kind : (s : Symbol) (k : Kind) (t : Token) (x : Option Feature) → s ≡ Of k → Fits s t x → ⊥
 leaf_of_kind (Is c) k t x e h = cc
 leaf_of_kind (Refused c f) k t x e h = cc
 leaf_of_kind (Of j) k t x e h = h
@@ -99,7 +82,7 @@ safe_append (s ∷ ss) b h k = all_append ss b h k
   where
     all_append : (a b : List Symbol) → all_safe a ≡ true → all_safe b ≡ true → all_safe (a ++ b) ≡ true
     all_append [] b h k = k
-    all_append (s ∷ ss) b h k = and_both _ _ (and_left _ _ h) (all_append ss b (and_right (is_safe s) _ h) k)
+    all_append (s ∷ ss) b h k = and_from _ _ (and_left _ _ h) (all_append ss b (and_right (is_safe s) _ h) k)
 
 pub expands_more : (y : Class) (old gs : List Symbol) (g : Symbol) (added : List Step) (k : Kind) (r : Rule) → Expands y old (g ∷ gs) added → g ≡ Of k → choice k y ≡ Some r → Expands y old (parts_of r ++ gs) (added ++ Begin r ∷ [])
 expands_more y old gs g added k r x is_kind choose =

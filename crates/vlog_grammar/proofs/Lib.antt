@@ -1,3 +1,4 @@
+mod Common
 pub mod Passes
 pub mod Rows
 pub mod Begins

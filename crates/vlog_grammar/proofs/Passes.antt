@@ -1,22 +1,13 @@
 -- The table passes the tests of a predictive reader.
-use Rattle.std.proofs.Common.{◌≡◌, ℕ, zero, suc, Bool, true, false, ◌&&◌, ◌||◌, not, List, [], ◌∷◌, Option, Some, None, refl, sym, ap, ◌∙◌, ltb, rules}
-use denote.Enum.Bare.{sameb, same_true, true_same}
+use Rattle.vlog_grammar.proofs.Common.{◌≡◌, ℕ, zero, suc, Bool, true, false, ◌&&◌, ◌||◌, not, List, [], ◌∷◌, Option, Some, None, refl, sym, ap, ◌∙◌, ltb, rules, sameb, same_true, true_same}
+use Rattle.vlog_grammar.proofs.Common.{class_type, Class, Kind, Rule, Symbol, Is, Refused, Of, choice, production, kind_of, parts_of, is_avoided, firsts, follows, is_null, rank_of, height_of}
+use Rattle.vlog_grammar.proofs.Common.{cheapest_of, is_same, is_first, is_follow, is_finish, is_plain, can_vanish, can_begin, can_come, all_safe, rest_of, work_of, all_below}
 use denote.Enum.Declared.{tag_of}
-use Rattle.vlog_grammar.specs.contracts.class.Class.{the_type as class_type}
 use Rattle.vlog_grammar.specs.contracts.rule.Kind.{the_type as kind_type}
 use Rattle.vlog_grammar.specs.contracts.rule.Rule.{the_type as rule_type}
-use Rattle.vlog_grammar.specs.declared.class.Class.{Class}
 use Rattle.vlog_grammar.specs.declared.class.Class.TheVariants as c
-use Rattle.vlog_grammar.specs.declared.rule.Kind.{Kind}
 use Rattle.vlog_grammar.specs.declared.rule.Kind.TheVariants as k
-use Rattle.vlog_grammar.specs.declared.rule.Rule.{Rule}
 use Rattle.vlog_grammar.specs.declared.rule.Rule.TheVariants as r
-use Rattle.vlog_grammar.specs.declared.table.Symbol.{Symbol}
-use Rattle.vlog_grammar.specs.declared.table.Symbol.TheVariants.{Is, Refused, Of}
-use Rattle.vlog_grammar.specs.Choice.{choice}
-use Rattle.vlog_grammar.specs.Grammar.{production, kind_of, parts_of, is_avoided}
-use Rattle.vlog_grammar.specs.Sets.{firsts, follows, is_null, rank_of, height_of, cheapest_of}
-use Rattle.vlog_grammar.specs.Look.{is_same, is_first, is_follow, is_finish, is_plain, can_vanish, can_begin, can_come, all_safe, rest_of, work_of, all_below}
 
 abbrev pub implies : Bool → Bool → Bool
 implies a b = not a || b

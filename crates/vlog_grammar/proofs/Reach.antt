@@ -1,25 +1,10 @@
 -- Where the reader stands after some tokens, and what it may answer there.
-use Rattle.std.proofs.Common.{◌≡◌, ℕ, zero, suc, ◌<◌, ◌≤◌, true, false, ◌&&◌, ltb, List, [], ◌∷◌, ◌++◌, Option, Some, None, refl, sym, ap, subst, ◌∙◌, append_assoc, arith}
-use Rattle.std.proofs.lemmas.List.{append-nil}
-use Rattle.std.proofs.lemmas.Bool.{ltb-true, lt-ltb}
-use Rattle.vlog_grammar.specs.declared.step.Token.{Token}
-use Rattle.vlog_grammar.specs.declared.step.Step.{Step}
-use Rattle.vlog_grammar.specs.declared.step.Step.TheVariants.{Take}
-use Rattle.vlog_syntax.specs.declared.feature.Feature.{Feature}
-use Rattle.vlog_grammar.specs.declared.class.Class.{Class}
-use Rattle.vlog_grammar.specs.declared.rule.Kind.{Kind}
-use Rattle.vlog_grammar.specs.declared.rule.Rule.{Rule}
-use Rattle.vlog_grammar.specs.declared.table.Symbol.{Symbol}
-use Rattle.vlog_grammar.specs.declared.table.Symbol.TheVariants.{Is, Refused, Of}
-use Rattle.vlog_grammar.specs.Grammar.{kind_of, parts_of, is_avoided}
-use Rattle.vlog_grammar.specs.Trees.{Trees, Nil, Leaf, Node, tokens_of, refusals_of, steps_of, next_of, Fits, Derives}
-use Rattle.vlog_grammar.specs.Reading.{start, IsText, none_refused, AreTreesOf, BeginText, IsUnexpected, IsRefused}
-use Rattle.vlog_grammar.specs.Sets.{height_of, cheapest_of}
-use Rattle.vlog_grammar.specs.Look.{is_plain, is_safe, all_safe, all_below}
+use Rattle.vlog_grammar.proofs.Common.{◌≡◌, ℕ, zero, suc, ◌<◌, ◌≤◌, true, false, ◌&&◌, ltb, List, [], ◌∷◌, ◌++◌, Option, Some, None, refl, sym, ap, subst, ◌∙◌, append_assoc, arith, append-nil}
+use Rattle.vlog_grammar.proofs.Common.{ltb-true, lt-ltb, and_from, false_from_ne_true, Token, Step, Take, Feature, Class, Kind, Rule, Symbol, Is, Refused, Of, kind_of, parts_of, is_avoided, Trees}
+use Rattle.vlog_grammar.proofs.Common.{Nil, Leaf, Node, tokens_of, refusals_of, steps_of, next_of, Fits, Derives, start, IsText, none_refused, BeginText, IsUnexpected, IsRefused, height_of}
+use Rattle.vlog_grammar.proofs.Common.{cheapest_of, is_plain, is_safe, all_safe, all_below, Expands, Text, Rest, Reaches}
 use Rattle.vlog_grammar.proofs.Passes.{and_left, and_right, cheapest, finish_is_plain, start_follow, avoided_is_not_plain}
-use Rattle.vlog_grammar.specs.Machine.{Expands, Text, Rest, Reaches}
-use Rattle.vlog_grammar.proofs.Begins.{and_both}
-use Rattle.vlog_grammar.proofs.Expand.{refute}
+use Rattle.vlog_grammar.proofs.Expand.{leaf_of_kind}
 
 pub reaches_start : Reaches [] [] start
 reaches_start = record {
@@ -38,11 +23,6 @@ one_refusal (Is c) t x y h k = h.1 ∙ sym k.1
 one_refusal (Refused c f) t x y h k = h.1 ∙ sym k.1
 one_refusal (Of k) t x y h k' = absurd h
 
-no_kind : (s : Symbol) (k : Kind) (t : Token) (x : Option Feature) → s ≡ Of k → Fits s t x → ⊥
-no_kind (Is c) k t x e h = cc
-no_kind (Refused c f) k t x e h = cc
-no_kind (Of j) k t x e h = h
-
 -- the first tree of a row whose first symbol the token fits
 pub front_leaf : (g : Symbol) (gs : List Symbol) (t : Token) (x : Option Feature) (h : Trees) (more : List Token) → Fits g t x → Derives (g ∷ gs) h [] → tokens_of h ≡ t ∷ more
     → (f : Trees) × (h ≡ Leaf t x f) × Derives gs f [] × (tokens_of f ≡ more)
@@ -51,7 +31,7 @@ front_leaf g gs t x (Leaf u y f) more fits d e =
     let same : u ≡ t = cc in
     let refusal : y ≡ x = one_refusal g t y x (subst (λ (w : Token). Fits g w y) same d.0) fits in
     (f, ap (λ (w : Token). Leaf w y f) same ∙ ap (λ (w : Option Feature). Leaf t w f) refusal, d.1, cc)
-front_leaf g gs t x (Node r parts f) more fits d e = absurd (no_kind g (kind_of r) t x d.0 fits)
+front_leaf g gs t x (Node r parts f) more fits d e = absurd (leaf_of_kind g (kind_of r) t x d.0 fits)
 
 -- the token is taken
 take_back : (done : List Token) (steps added : List Step) (old gs : List Symbol) (g : Symbol) (t : Token) → Reaches done steps old → Expands t.class old (g ∷ gs) added → Fits g t None → (f : Trees) → Derives gs f [] → Text (done ++ t ∷ []) (steps ++ (added ++ Take t ∷ [])) f
@@ -103,7 +83,7 @@ supported_append f g h k =
     ap (λ (xs : List (Option Feature)). xs ++ refusals_of g) h ∙ ap (λ (xs : List (Option Feature)). none_refused (tokens_of f) ++ xs) k ∙ sym (none_refused-append (tokens_of f) (tokens_of g))
 
 not_avoided : (r : Rule) (ts : List Token) → is_plain (next_of ts) ≡ true → is_avoided r (next_of ts) ≡ false
-not_avoided r ts h = refute _ (λ k. let wrong : true ≡ false = sym h ∙ avoided_is_not_plain r _ k in cc)
+not_avoided r ts h = false_from_ne_true _ (λ k. let wrong : true ≡ false = sym h ∙ avoided_is_not_plain r _ k in cc)
 
 all_below_more : (m n : ℕ) → m ≤ n → (ss : List Symbol) → all_below m ss ≡ true → all_below n ss ≡ true
 all_below_more m n le [] h = refl
@@ -111,7 +91,7 @@ all_below_more m n le (Is c ∷ ss) h = all_below_more m n le ss h
 all_below_more m n le (Refused c f ∷ ss) h = h
 all_below_more m n le (Of k ∷ ss) h =
     let lt : height_of k < m = ltb-true _ _ (and_left _ _ h) in
-    and_both _ _ (lt-ltb (height_of k) n (omega arith)) (all_below_more m n le ss (and_right (ltb (height_of k) m) _ h))
+    and_from _ _ (lt-ltb (height_of k) n (omega arith)) (all_below_more m n le ss (and_right (ltb (height_of k) m) _ h))
 
 abbrev FinishesKind : ℕ → Type 0
 FinishesKind n = (k : Kind) (after : List Token) → height_of k < n → is_plain (next_of after) ≡ true → Finishes (Of k ∷ []) after
@@ -223,9 +203,3 @@ is_refused done steps added old gs g t rest x at ex fits =
       refusals = refusals_of f.row;
       first_refused = u.refusals ∙ ap (λ (xs : List (Option Feature)). none_refused done ++ xs) w.refusals;
     }
-
--- the whole is read
-pub are_trees : (done : List Token) (steps : List Step) → Reaches done steps [] → (text : Trees) × AreTreesOf text done × (steps_of text ≡ steps)
-are_trees done steps at =
-    let u = at.back Nil tt in
-    (u.row, record { is_text = u.is_text; derives = u.tokens ∙ append-nil done; none_is_refused = u.refusals ∙ append-nil (none_refused done) }, u.steps ∙ append-nil steps)

@@ -1,12 +1,6 @@
 -- Rows of trees side by side.
-use Rattle.std.proofs.Common.{◌≡◌, false, List, [], ◌∷◌, ◌++◌, Option, refl, sym, ap, subst, ◌∙◌, append_assoc}
-use Rattle.vlog_grammar.specs.declared.step.Token.{Token}
-use Rattle.vlog_grammar.specs.declared.step.Step.{Step}
-use Rattle.vlog_grammar.specs.declared.step.Step.TheVariants.{Take, Begin}
-use Rattle.vlog_syntax.specs.declared.feature.Feature.{Feature}
-use Rattle.vlog_grammar.specs.declared.table.Symbol.{Symbol}
-use Rattle.vlog_grammar.specs.Grammar.{parts_of, is_avoided}
-use Rattle.vlog_grammar.specs.Trees.{Trees, Nil, Leaf, Node, tokens_of, refusals_of, steps_of, next_of, Derives}
+use Rattle.vlog_grammar.proofs.Common.{◌≡◌, false, List, [], ◌∷◌, ◌++◌, Option, refl, sym, ap, subst, ◌∙◌, append_assoc, Token, Step, Take, Begin, Feature, Symbol, parts_of, is_avoided, Trees, Nil}
+use Rattle.vlog_grammar.proofs.Common.{Leaf, Node, tokens_of, refusals_of, steps_of, next_of, Derives}
 
 infixl 10 ◌⊕◌
 abbrev pub ◌⊕◌ : Trees → Trees → Trees

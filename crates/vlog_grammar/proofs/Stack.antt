@@ -1,17 +1,6 @@
 -- The steps of the loop that puts productions in the place of kinds.
-use Rattle.std.proofs.Common.{◌≡◌, ◌<◌, List, [], ◌∷◌, ◌++◌, true, Some, reverse, refl, sym, ap, subst, ◌∙◌, append_assoc}
-use Rattle.std.proofs.lemmas.List.{append-nil, reverse-append}
-use Rattle.vlog_grammar.specs.declared.step.Step.{Step}
-use Rattle.vlog_grammar.specs.declared.step.Step.TheVariants.{Begin}
-use Rattle.vlog_grammar.specs.declared.class.Class.{Class}
-use Rattle.vlog_grammar.specs.declared.rule.Kind.{Kind}
-use Rattle.vlog_grammar.specs.declared.rule.Rule.{Rule}
-use Rattle.vlog_grammar.specs.declared.table.Symbol.{Symbol}
-use Rattle.vlog_grammar.specs.declared.table.Symbol.TheVariants.{Of}
-use Rattle.vlog_grammar.specs.Choice.{choice}
-use Rattle.vlog_grammar.specs.Grammar.{parts_of}
-use Rattle.vlog_grammar.specs.Look.{work_of, all_safe, rest_of}
-use Rattle.vlog_grammar.specs.Machine.{AllFollowed, Expands, ExpandsTo}
+use Rattle.vlog_grammar.proofs.Common.{◌≡◌, ◌<◌, List, [], ◌∷◌, ◌++◌, true, Some, reverse, refl, sym, ap, subst, ◌∙◌, append_assoc, append-nil, reverse-append, Step, Begin, Class, Kind, Rule, Symbol}
+use Rattle.vlog_grammar.proofs.Common.{Of, choice, parts_of, work_of, all_safe, rest_of, AllFollowed, Expands, ExpandsTo}
 use Rattle.vlog_grammar.proofs.Passes.{and_right}
 use Rattle.vlog_grammar.proofs.Expand.{expands_none, expands_more}
 use Rattle.vlog_grammar.proofs.Work.{less_work}

@@ -1,23 +1,11 @@
 -- Why the reader may stop where it does.
-use Rattle.std.proofs.Common.{◌≡◌, ℕ, ◌+◌, ◌<◌, ◌≤◌, suc, List, [], ◌∷◌, ◌++◌, length, take, drop, get_or, reverse, Option, Some, None, refl, sym, ap, subst, ◌∙◌, append_assoc, arith}
-use Rattle.std.proofs.lemmas.List.{append-nil, append_cancel_right}
+use Rattle.vlog_grammar.proofs.Common.{◌≡◌, ℕ, ◌+◌, ◌<◌, ◌≤◌, suc, List, [], ◌∷◌, ◌++◌, length, take, drop, get_or, reverse, Option, Some, None, refl, sym, ap, subst, ◌∙◌, append_assoc, arith}
+use Rattle.vlog_grammar.proofs.Common.{append-nil, append_cancel_right, drop-cons, drop-length, take-length, Token, Step, Take, Begin, Feature, Class, Finish, Symbol, kind_of, Trees, Nil, Leaf, Node}
+use Rattle.vlog_grammar.proofs.Common.{tokens_of, next_of, Fits, Derives, steps_of, start, none_refused, AreStepsOf, IsUnexpected, IsRefused, IsUnexpectedAt, IsRefusedAt, IsStopAt, IsReading}
+use Rattle.vlog_grammar.proofs.Common.{AreStepsSoFar, taken, named, Unexpected, Stop, AllFollowed, ExpandsTo, Reaches, with_asked, IsAsked}
 use Rattle.std.proofs.lemmas.List as lists
-use Rattle.std.proofs.Math.Seq.{drop-cons, drop-length, take-length}
-use Rattle.vlog_grammar.specs.declared.step.Token.{Token}
-use Rattle.vlog_grammar.specs.declared.step.Step.{Step}
-use Rattle.vlog_grammar.specs.declared.step.Step.TheVariants.{Take, Begin}
-use Rattle.vlog_syntax.specs.declared.feature.Feature.{Feature}
 use Rattle.vlog_grammar.specs.declared.reader.Asked.{Asked}
 use Rattle.vlog_grammar.specs.declared.reader.Asked.TheVariants.{Asks, Stuck, Nothing}
-use Rattle.vlog_grammar.specs.declared.class.Class.{Class}
-use Rattle.vlog_grammar.specs.declared.class.Class.TheVariants.{Finish}
-use Rattle.vlog_grammar.specs.declared.table.Symbol.{Symbol}
-use Rattle.vlog_grammar.specs.Grammar.{kind_of}
-use Rattle.vlog_grammar.specs.Trees.{Trees, Nil, Leaf, Node, tokens_of, next_of, Fits, Derives, steps_of}
-use Rattle.vlog_grammar.specs.Reading.{start, none_refused, AreStepsOf, IsUnexpected, IsRefused, IsUnexpectedAt, IsRefusedAt, IsStopAt, IsReading, AreStepsSoFar, taken, named}
-use Rattle.vlog_grammar.specs.declared.stop.Stop.TheVariants.{Unexpected}
-use Rattle.vlog_grammar.specs.declared.stop.Stop.{Stop}
-use Rattle.vlog_grammar.specs.Machine.{AllFollowed, ExpandsTo, Reaches, with_asked, IsAsked}
 use Rattle.vlog_grammar.proofs.Expand.{front_is}
 use Rattle.vlog_grammar.proofs.Reach.{stack_finishes, NoRow, is_unexpected, is_refused, reaches_more, reaches_start}
 

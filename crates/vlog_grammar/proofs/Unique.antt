@@ -1,18 +1,7 @@
 -- Rows for the same symbols that derive the same tokens are read by the same steps, so a text has one meaning.
-use Rattle.std.proofs.Common.{◌≡◌, ℕ, zero, suc, ◌+◌, ◌<◌, List, [], ◌∷◌, ◌++◌, length, take, Option, Some, refl, sym, ap, subst, ◌∙◌, arith}
-use Rattle.std.proofs.lemmas.List.{append-nil}
-use Rattle.vlog_grammar.specs.declared.step.Token.{Token}
-use Rattle.vlog_grammar.specs.declared.step.Step.{Step}
-use Rattle.vlog_grammar.specs.declared.step.Step.TheVariants.{Take, Begin}
-use Rattle.vlog_syntax.specs.declared.feature.Feature.{Feature}
-use Rattle.vlog_grammar.specs.declared.rule.Rule.{Rule}
-use Rattle.vlog_grammar.specs.declared.table.Symbol.{Symbol}
-use Rattle.vlog_grammar.specs.declared.table.Symbol.TheVariants.{Of}
-use Rattle.vlog_grammar.specs.Choice.{choice}
-use Rattle.vlog_grammar.specs.Grammar.{kind_of, parts_of}
-use Rattle.vlog_grammar.specs.Trees.{Trees, Nil, Leaf, Node, tokens_of, refusals_of, steps_of, next_of, Derives}
-use Rattle.vlog_grammar.specs.Reading.{start, IsText, steps_for, AreAlikeFor}
-use Rattle.vlog_grammar.specs.Machine.{AllFollowed}
+use Rattle.vlog_grammar.proofs.Common.{◌≡◌, ℕ, zero, suc, ◌+◌, ◌<◌, List, [], ◌∷◌, ◌++◌, length, take, Option, Some, refl, sym, ap, subst, ◌∙◌, arith, append-nil, Token, Step, Take, Begin, Feature}
+use Rattle.vlog_grammar.proofs.Common.{Rule, Symbol, Of, choice, kind_of, parts_of, Trees, Nil, Leaf, Node, tokens_of, refusals_of, steps_of, next_of, Derives, start, IsText, steps_for, AreAlikeFor}
+use Rattle.vlog_grammar.proofs.Common.{AllFollowed}
 use Rattle.vlog_grammar.proofs.Passes.{start_follow}
 use Rattle.vlog_grammar.proofs.Rows.{◌⊕◌, joined, tokens-join, refusals-join, steps-join}
 use Rattle.vlog_grammar.proofs.Begins.{expanded_followed, front_is_chosen}

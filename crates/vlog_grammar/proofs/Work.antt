@@ -1,15 +1,6 @@
 -- The work that is left before a token is taken falls with each production.
-use Rattle.std.proofs.Common.{◌≡◌, ℕ, ◌+◌, ◌<◌, ◌≤◌, Bool, true, false, ◌&&◌, cond, List, [], ◌∷◌, ◌++◌, Some, refl, sym, ap, subst, ◌∙◌, arith}
-use Rattle.std.proofs.lemmas.Bool.{ltb-true}
-use Rattle.vlog_grammar.specs.declared.class.Class.{Class}
-use Rattle.vlog_grammar.specs.declared.rule.Kind.{Kind}
-use Rattle.vlog_grammar.specs.declared.rule.Rule.{Rule}
-use Rattle.vlog_grammar.specs.declared.table.Symbol.{Symbol}
-use Rattle.vlog_grammar.specs.declared.table.Symbol.TheVariants.{Is, Refused, Of}
-use Rattle.vlog_grammar.specs.Choice.{choice}
-use Rattle.vlog_grammar.specs.Grammar.{kind_of, parts_of}
-use Rattle.vlog_grammar.specs.Sets.{is_null, rank_of}
-use Rattle.vlog_grammar.specs.Look.{can_vanish, work_of}
+use Rattle.vlog_grammar.proofs.Common.{◌≡◌, ℕ, ◌+◌, ◌<◌, ◌≤◌, Bool, true, false, ◌&&◌, cond, List, [], ◌∷◌, ◌++◌, Some, refl, sym, ap, subst, ◌∙◌, arith, ltb-true, Class, Kind, Rule, Symbol, Is}
+use Rattle.vlog_grammar.proofs.Common.{Refused, Of, choice, kind_of, parts_of, is_null, rank_of, can_vanish, work_of}
 use Rattle.vlog_grammar.proofs.Passes.{chosen, null_closed, work_falls}
 
 work_append : (a b : List Symbol) → work_of (a ++ b) ≤ work_of a + cond (can_vanish a) (work_of b) 0

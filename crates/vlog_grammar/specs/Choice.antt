@@ -7,6 +7,8 @@ use Rattle.vlog_grammar.specs.declared.rule.Kind.TheVariants as k
 use Rattle.vlog_grammar.specs.declared.rule.Rule.{Rule}
 use Rattle.vlog_grammar.specs.declared.rule.Rule.TheVariants as r
 
+-- For proofs alone.
+
 unfoldable pub choice : Kind → Class → Option Rule
 choice k.SourceText c.SystemVerilog = Some r.SystemVerilogDescription
 choice k.SourceText c.Module = Some r.ModuleDeclaration

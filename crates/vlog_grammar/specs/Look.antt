@@ -9,6 +9,8 @@ use Rattle.vlog_grammar.specs.declared.table.Symbol.{Symbol}
 use Rattle.vlog_grammar.specs.declared.table.Symbol.TheVariants.{Is, Refused, Of}
 use Rattle.vlog_grammar.specs.Sets.{firsts, follows, is_null, rank_of, height_of}
 
+-- For proofs alone.
+
 abbrev pub is_same : Class → Class → Bool
 is_same a b = sameb the_type a b
 

@@ -13,6 +13,8 @@ use Rattle.vlog_grammar.specs.Look.{can_come, all_safe, rest_of, is_follow, is_f
 use Rattle.vlog_grammar.specs.Reading.{IsText, none_refused}
 use Rattle.vlog_grammar.specs.Trees.{Trees, tokens_of, refusals_of, steps_of, next_of, Derives}
 
+-- For proofs alone.
+
 -- what may stand behind a symbol, where a row for ss and then the end stand there
 abbrev pub IsFollowed : Symbol → List Symbol → Type 0
 IsFollowed (Is c) ss = Unit {0}

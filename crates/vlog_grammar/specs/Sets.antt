@@ -8,6 +8,8 @@ use Rattle.vlog_grammar.specs.declared.rule.Kind.TheVariants as k
 use Rattle.vlog_grammar.specs.declared.rule.Rule.{Rule}
 use Rattle.vlog_grammar.specs.declared.rule.Rule.TheVariants as r
 
+-- For proofs alone.
+
 abbrev expression_ends : List Class
 expression_ends = c.Semicolon ∷ c.CloseParen ∷ c.Comma ∷ c.Colon ∷ c.CloseBracket ∷ c.OpenBrace ∷ c.CloseBrace ∷ c.PlusColon ∷ []
 

@@ -3,7 +3,8 @@ use Rattle.std.proofs.Common.{◌≡◌, true, List}
 use Rattle.vlog_grammar.specs.declared.rule.Rule.TheVariants as r
 use Rattle.vlog_grammar.specs.Grammar.{production, parts_of}
 use Rattle.vlog_parts.specs.declared.value.Value.{Value}
-use Rattle.vlog_parts.specs.Values.{seventh, ninth, eleventh, thirteenth, is_expr, is_item, is_identifier}
+use Rattle.vlog_parts.specs.Sorts.{is_expr, is_item, is_identifier}
+use Rattle.vlog_parts.specs.Numbered.{seventh, ninth, eleventh, thirteenth}
 use Rattle.vlog_parts.specs.Kinds.{is_of_kind, sorted}
 use Rattle.vlog_parts.proofs.SortedParts.{later}
 

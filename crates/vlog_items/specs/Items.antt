@@ -12,10 +12,11 @@ use Rattle.vlog_syntax.specs.declared.item.Item.TheVariants as i
 use Rattle.vlog_grammar.specs.declared.rule.Rule.{Rule}
 use Rattle.vlog_grammar.specs.declared.rule.Rule.TheVariants as r
 use Rattle.vlog_parts.specs.declared.value.Value.{Value}
-use Rattle.vlog_parts.specs.Sorts as v
+use Rattle.vlog_parts.specs.declared.value.Value.TheVariants as v
 use Rattle.vlog_parts.specs.Leaves.{identifier}
 use Rattle.vlog_declarations.specs.Declarations.{made_declaration, plain}
-use Rattle.vlog_parts.specs.Values.{first, second, third, fourth, fifth, sixth, seventh, ninth, eleventh, thirteenth, span_of, token_of, identifier_of, label_of, expr_of, exprs_of, option_expr_of, left_of, stmt_of, delay_of, assignment_of, assignments_of, parameter_values_of, connection_of, connections_of, ordered_of, ports_of, instance_of, instances_of, item_of, items_of, option_item_of}
+use Rattle.vlog_parts.specs.Numbered.{first, second, third, fourth, fifth, sixth, seventh, ninth, eleventh, thirteenth}
+use Rattle.vlog_parts.specs.Values.{span_of, token_of, identifier_of, label_of, expr_of, exprs_of, option_expr_of, left_of, stmt_of, delay_of, assignment_of, assignments_of, parameter_values_of, connection_of, connections_of, ordered_of, ports_of, instance_of, instances_of, item_of, items_of, option_item_of}
 
 -- `left = value`
 abbrev pub assignment : Value → Value → Value → Assignment

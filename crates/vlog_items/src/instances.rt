@@ -3,13 +3,12 @@
 
 ghost use Rattle.std.specs.Prelude.{◌≡◌, true, IfOk};
 ghost use Rattle.vlog_grammar.specs.declared.rule.Rule.TheVariants as r;
-ghost use Rattle.vlog_parts.specs.Sorts as v;
 ghost use Rattle.vlog_syntax.specs.declared.item.Connections.TheVariants as co;
 ghost use Rattle.vlog_items.specs.Items as spec;
 ghost use Rattle.vlog_parts.specs.Kinds.{sorted};
 
 use std::alloc::{AllocError, Global};
-use vlog_parts::{InstancePart, Parts, Stack, Value, boxed_instance_part, boxed_plain, identifier};
+use vlog_parts::{Parts, Stack, Value, boxed_instance, boxed_plain, identifier};
 use vlog_syntax::{
     Boxed, Connections, Expr, Instance, NamedConnection, ParameterValues, PlainItem,
 };
@@ -20,10 +19,7 @@ pub fn named_parameters<'a>(alloc: Global, parts: &mut Parts<'a>) -> Result<Valu
     ensures { IfOk result (λ x. x ≡ spec.made_item r.NamedParameters parts.old) }
 {
     let all = parts.some_connections(alloc)?;
-    boxed_instance_part(
-        alloc,
-        InstancePart::ParameterValues(ParameterValues::Named(all.into_listed())),
-    )
+    Ok(Value::ParameterValues(ParameterValues::Named(all.into_listed())))
 }
 
 /// Parameters by place.
@@ -32,10 +28,7 @@ pub fn ordered_parameters<'a>(alloc: Global, parts: &mut Parts<'a>) -> Result<Va
     ensures { IfOk result (λ x. x ≡ spec.made_item r.OrderedParameters parts.old) }
 {
     let all = parts.some_exprs(alloc)?;
-    boxed_instance_part(
-        alloc,
-        InstancePart::ParameterValues(ParameterValues::Ordered(all.into_listed())),
-    )
+    Ok(Value::ParameterValues(ParameterValues::Ordered(all.into_listed())))
 }
 
 /// An instance.
@@ -46,7 +39,7 @@ pub fn module_instance<'a>(alloc: Global, parts: &mut Parts<'a>) -> Result<Value
     let name = parts.identifier();
     parts.skip();
     let ports = parts.ports();
-    boxed_instance_part(alloc, InstancePart::Instance(Instance { name, ports }))
+    boxed_instance(alloc, Instance { name, ports })
 }
 
 /// An instance behind a `,`, and those behind it.
@@ -59,7 +52,7 @@ pub fn next_module_instance<'a>(
 {
     parts.skip();
     let all = parts.some_instances(alloc)?;
-    boxed_instance_part(alloc, InstancePart::Instances(all))
+    Ok(Value::Instances(all))
 }
 
 /// Ports by name.
@@ -68,10 +61,7 @@ pub fn named_connections<'a>(alloc: Global, parts: &mut Parts<'a>) -> Result<Val
     ensures { IfOk result (λ x. x ≡ spec.made_item r.NamedConnections parts.old) }
 {
     let all = parts.some_connections(alloc)?;
-    boxed_instance_part(
-        alloc,
-        InstancePart::Connections(Connections::Named(all.into_listed())),
-    )
+    Ok(Value::Connections(Connections::Named(all.into_listed())))
 }
 
 /// Ports by place. One that is left empty, alone, is none.
@@ -98,22 +88,19 @@ pub fn ordered_connections<'a>(
 {
     let first = parts.option_expr();
     let others = parts.ordered(alloc);
-    boxed_instance_part(alloc, InstancePart::Connections(placed(first, others)?))
+    Ok(Value::Connections(placed(first, others)?))
 }
 
 /// A port by its name.
-pub fn connection_by_name<'a>(alloc: Global, parts: &mut Parts<'a>) -> Result<Value<'a>, AllocError>
+pub fn connection_by_name<'a>(parts: &mut Parts<'a>) -> Value<'a>
     requires { sorted r.ConnectionByName parts.old ≡ true }
-    ensures { IfOk result (λ x. x ≡ spec.made_item r.ConnectionByName parts.old) }
+    ensures { result ≡ spec.made_item r.ConnectionByName parts.old }
 {
     parts.skip();
     let name = parts.identifier();
     parts.skip();
     let value = parts.option_expr();
-    boxed_instance_part(
-        alloc,
-        InstancePart::Connection(NamedConnection { name, value }),
-    )
+    Value::Connection(NamedConnection { name, value })
 }
 
 /// A port behind a `,`, and those behind it.
@@ -126,7 +113,7 @@ pub fn next_named_connection<'a>(
 {
     parts.skip();
     let all = parts.some_connections(alloc)?;
-    boxed_instance_part(alloc, InstancePart::NamedConnections(all))
+    Ok(Value::NamedConnections(all))
 }
 
 /// A port behind a `,`, and those behind it.
@@ -139,7 +126,7 @@ pub fn next_ordered_connection<'a>(
     parts.skip();
     let first = parts.option_expr();
     let all = parts.ordered(alloc).with(first)?;
-    boxed_instance_part(alloc, InstancePart::OrderedConnections(all))
+    Ok(Value::OrderedConnections(all))
 }
 
 /// Instances of a module.

@@ -3,8 +3,10 @@
 
 ghost use Rattle.std.specs.Prelude.{◌≡◌, ◌∷◌, true, IfOk};
 ghost use Rattle.vlog_grammar.specs.declared.rule.Rule.TheVariants as r;
-ghost use Rattle.vlog_parts.specs.Sorts as v;
-ghost use Rattle.vlog_parts.specs.Values.{first, rest, second, third, item_of, items_of, is_expr, is_item, is_left, is_stmt};
+ghost use Rattle.vlog_parts.specs.declared.value.Value.TheVariants as v;
+ghost use Rattle.vlog_parts.specs.Sorts.{is_expr, is_item, is_left, is_stmt};
+ghost use Rattle.vlog_parts.specs.Numbered.{first, rest, second, third};
+ghost use Rattle.vlog_parts.specs.Values.{item_of, items_of};
 ghost use Rattle.vlog_items.specs.Items as spec;
 ghost use Rattle.vlog_parts.specs.Kinds.{sorted};
 
@@ -16,17 +18,17 @@ use crate::instances::{
 use std::alloc::{AllocError, Global};
 use vlog_declarations::make_declaration;
 use vlog_grammar::Rule;
-use vlog_parts::{ItemPart, Parts, Value, boxed_item, boxed_item_part, boxed_plain};
+use vlog_parts::{Parts, Value, boxed_assignment, boxed_item, boxed_plain};
 use vlog_syntax::{Assignment, Delay, GenerateLoop, Item, PlainItem, Process, ProcessKind};
 
 /// A delay.
-fn some_delay<'a>(alloc: Global, parts: &mut Parts<'a>) -> Result<Value<'a>, AllocError>
+fn some_delay<'a>(parts: &mut Parts<'a>) -> Value<'a>
     requires { sorted r.SomeDelay parts.old ≡ true }
-    ensures { IfOk result (λ x. x ≡ spec.made_item r.SomeDelay parts.old) }
+    ensures { result ≡ spec.made_item r.SomeDelay parts.old }
 {
     let span = parts.span();
     let value = parts.expr();
-    boxed_item_part(alloc, ItemPart::Delay(Delay { span, value }))
+    Value::Delay(Delay { span, value })
 }
 
 /// `left = value`.
@@ -48,7 +50,7 @@ fn net_assigned<'a>(alloc: Global, parts: &mut Parts<'a>) -> Result<Value<'a>, A
     requires { sorted r.NetAssigned parts.old ≡ true }
     ensures { IfOk result (λ x. x ≡ spec.made_item r.NetAssigned parts.old) }
 {
-    boxed_item_part(alloc, ItemPart::Assignment(assignment(parts)))
+    boxed_assignment(alloc, assignment(parts))
 }
 
 /// An assignment behind a `,`, and those behind it.
@@ -58,7 +60,7 @@ fn next_net_assignment<'a>(alloc: Global, parts: &mut Parts<'a>) -> Result<Value
 {
     parts.skip();
     let all = parts.some_assignments(alloc)?;
-    boxed_item_part(alloc, ItemPart::Assignments(all))
+    Ok(Value::Assignments(all))
 }
 
 /// A continuous assignment.
@@ -99,7 +101,7 @@ fn more_items<'a>(alloc: Global, parts: &mut Parts<'a>) -> Result<Value<'a>, All
 {
     parts.skip();
     let items = parts.some_items(alloc)?;
-    boxed_item_part(alloc, ItemPart::Items(items))
+    Ok(Value::Items(items))
 }
 
 /// A generate region.
@@ -201,7 +203,7 @@ pub fn make_item<'a>(
         Rule::ConditionalGenerate => conditional_generate(alloc, parts),
         Rule::GenerateBeginEnd => generate_begin_end(alloc, parts),
         Rule::NullGenerate => null_generate(alloc, parts),
-        Rule::SomeDelay => some_delay(alloc, parts),
+        Rule::SomeDelay => Ok(some_delay(parts)),
         Rule::NetAssigned => net_assigned(alloc, parts),
         Rule::NextNetAssignment => next_net_assignment(alloc, parts),
         Rule::NamedParameters => named_parameters(alloc, parts),
@@ -210,7 +212,7 @@ pub fn make_item<'a>(
         Rule::NextModuleInstance => next_module_instance(alloc, parts),
         Rule::NamedConnections => named_connections(alloc, parts),
         Rule::OrderedConnections => ordered_connections(alloc, parts),
-        Rule::ConnectionByName => connection_by_name(alloc, parts),
+        Rule::ConnectionByName => Ok(connection_by_name(parts)),
         Rule::NextNamedConnection => next_named_connection(alloc, parts),
         Rule::NextOrderedConnection => next_ordered_connection(alloc, parts),
         _ => make_declaration(alloc, rule, parts),

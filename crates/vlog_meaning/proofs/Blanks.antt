@@ -1,7 +1,5 @@
 -- Lists that are empty.
-use Rattle.std.proofs.Common.{◌≡◌, List, [], ◌∷◌, ◌++◌, refl}
-use Rattle.vlog_meaning.specs.declared.fault.Fault.{Fault}
-use Rattle.vlog_meaning.specs.Senses.{or_else}
+use Rattle.vlog_meaning.proofs.Common.{◌≡◌, List, [], ◌∷◌, ◌++◌, refl, Fault, or_else}
 
 pub left_nil : {A : Type 0} (xs ys : List A) → xs ++ ys ≡ [] → xs ≡ []
 left_nil [] ys e = refl

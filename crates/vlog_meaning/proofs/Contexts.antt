@@ -1,19 +1,13 @@
 -- Operands in their contexts, and values that fit them.
-use Rattle.std.proofs.Common.{◌≡◌, ℕ, zero, suc, ◌+◌, ◌-◌, ◌*◌, ◌/◌, ◌%◌, ◌<◌, ◌≤◌, ◌^◌, max, Bool, true, false, ◌&&◌, ℤ, pos, negsuc, neg_ℤ, refl, sym, arith, subst}
-use Rattle.std.specs.Prelude.{if◌then◌else◌}
+use Rattle.vlog_meaning.proofs.Common.{◌≡◌, ℕ, zero, suc, ◌+◌, ◌-◌, ◌*◌, ◌/◌, ◌%◌, ◌<◌, ◌≤◌, ◌^◌, max, Bool, true, false, ◌&&◌, ℤ, pos, negsuc, neg_ℤ, refl, sym, arith, subst, if◌then◌else◌, xor_lt}
+use Rattle.vlog_meaning.proofs.Common.{or_lt, mod-lt, div-le_self, UnaryOperator, BinaryOperator, Shape, Sizing, integer, low_bits, parity, window, IsSized, ArePaired, bit, is_reduction, joint}
+use Rattle.vlog_meaning.proofs.Common.{sizing, pair_shape, left_context, right_context, result_width, unary_shape, operand_context, digit, unary_value, binary_value, negative_power, IsContext}
 use Rattle.std.specs.Int.Bits.{and_lt}
-use Rattle.std.proofs.lemmas.Nat.{xor_lt, or_lt}
-use Rattle.std.proofs.Math.Nat.{mod-lt, div-le_self}
-use Rattle.vlog_syntax.specs.declared.operator.UnaryOperator.{UnaryOperator}
 use Rattle.vlog_syntax.specs.declared.operator.UnaryOperator.TheVariants.{Plus, Minus, LogicalNot, BitwiseNot, ReductionAnd, ReductionNand, ReductionOr, ReductionNor, ReductionXor, ReductionXnor}
-use Rattle.vlog_syntax.specs.declared.operator.BinaryOperator.{BinaryOperator}
-use Rattle.vlog_syntax.specs.declared.operator.BinaryOperator.TheVariants.{Power, Multiply, Divide, Modulus, Add, Subtract, LogicalShiftLeft, LogicalShiftRight, ArithmeticShiftLeft, ArithmeticShiftRight, Less, LessEqual, Greater, GreaterEqual, LogicalEquality, LogicalInequality, CaseEquality, CaseInequality, BitwiseAnd, BitwiseXor, BitwiseXnor, BitwiseOr, LogicalAnd, LogicalOr}
-use Rattle.vlog_meaning.specs.declared.shapes.Shape.{Shape}
-use Rattle.vlog_meaning.specs.declared.operator.Sizing.{Sizing}
+use Rattle.vlog_syntax.specs.declared.operator.BinaryOperator.TheVariants.{Power, Multiply, Divide, Modulus, Add, Subtract, LogicalShiftLeft, LogicalShiftRight, ArithmeticShiftLeft}
+use Rattle.vlog_syntax.specs.declared.operator.BinaryOperator.TheVariants.{ArithmeticShiftRight, Less, LessEqual, Greater, GreaterEqual, LogicalEquality, LogicalInequality, CaseEquality}
+use Rattle.vlog_syntax.specs.declared.operator.BinaryOperator.TheVariants.{CaseInequality, BitwiseAnd, BitwiseXor, BitwiseXnor, BitwiseOr, LogicalAnd, LogicalOr}
 use Rattle.vlog_meaning.specs.declared.operator.Sizing.TheVariants.{Common, Left, Compared, Apart}
-use Rattle.vlog_meaning.specs.Integers.{integer, low_bits, parity, window}
-use Rattle.vlog_meaning.specs.Operators.{IsSized, ArePaired, bit, is_reduction, joint, sizing, pair_shape, left_context, right_context, result_width, unary_shape, operand_context, digit, unary_value, binary_value, negative_power}
-use Rattle.vlog_meaning.specs.Senses.{IsContext}
 use Rattle.vlog_meaning.proofs.Powers.{power_le}
 
 pub own_context : (s c : Shape) → c ≡ s → IsSized c → IsContext s c
@@ -63,7 +57,7 @@ context_sized s c sized at = record { some = omega arith; narrow = at.narrow }
 
 -- Values that fit.
 
-low_bits_fit : (w : ℕ) (z : ℤ) → low_bits w z < 2 ^ w
+pub low_bits_fit : (w : ℕ) (z : ℤ) → low_bits w z < 2 ^ w
 low_bits_fit w (pos n) = mod-lt n (let e : 2 ^ 0 ≤ 2 ^ w = power_le 0 w (omega arith) in omega arith)
 low_bits_fit w (negsuc n) = let e : 2 ^ 0 ≤ 2 ^ w = power_le 0 w (omega arith) in omega arith
 
@@ -99,7 +93,7 @@ unary_fits ReductionNor i c a some h = digit_fits _ c.width some
 unary_fits ReductionXor i c a some h = bit_fits _ c.width (parity_fits i.width a) some
 unary_fits ReductionXnor i c a some h = bit_fits _ c.width (omega arith) some
 
-branch_fits : (b : Bool) (x y m : ℕ) → x < m → y < m → (if b then x else y) < m
+pub branch_fits : (b : Bool) (x y m : ℕ) → x < m → y < m → (if b then x else y) < m
 branch_fits true x y m h k = h
 branch_fits false x y m h k = k
 

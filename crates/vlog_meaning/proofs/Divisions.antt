@@ -1,19 +1,7 @@
 -- The first division by 0 at an operator and in its operands.
-use Rattle.std.proofs.Common.{◌≡◌, ℕ, [], ◌∷◌, ◌++◌, refl, sym, ap, ◌∙◌, subst}
-use Rattle.std.specs.Prelude.{Option, if◌then◌else◌}
-use Rattle.mcy_base.specs.declared.span.Span.{Span}
-use Rattle.vlog_syntax.specs.declared.operator.UnaryOperator.{UnaryOperator}
-use Rattle.vlog_syntax.specs.declared.operator.BinaryOperator.{BinaryOperator}
-use Rattle.vlog_syntax.specs.declared.expr.Expr.{Expr}
+use Rattle.vlog_meaning.proofs.Common.{◌≡◌, ℕ, [], ◌∷◌, ◌++◌, refl, sym, ap, ◌∙◌, subst, Option, if◌then◌else◌, Span, UnaryOperator, BinaryOperator, Expr, DivideByZero, Fault, Sizing, Shape, IsSized}
+use Rattle.vlog_meaning.proofs.Common.{sizing, left_context, right_context, unary_shape, operand_context, divides_by_zero, Names, nothing, Sense, sense, binary_zeros, IsContext, earlier, least_at}
 use Rattle.vlog_syntax.specs.declared.expr.Expr.TheVariants as v
-use Rattle.vlog_meaning.specs.declared.fault.Cause.TheVariants.{DivideByZero}
-use Rattle.vlog_meaning.specs.declared.fault.Fault.{Fault}
-use Rattle.vlog_meaning.specs.declared.operator.Sizing.{Sizing}
-use Rattle.vlog_meaning.specs.declared.shapes.Shape.{Shape}
-use Rattle.vlog_meaning.specs.Operators.{IsSized, sizing, left_context, right_context, unary_shape, operand_context, divides_by_zero}
-use Rattle.vlog_meaning.specs.Scopes.{Names, nothing}
-use Rattle.vlog_meaning.specs.Senses.{Sense, sense, binary_zeros, IsContext}
-use Rattle.vlog_meaning.specs.Answers.{earlier, least_at}
 use Rattle.vlog_meaning.proofs.Contexts.{operand_within}
 use Rattle.vlog_meaning.proofs.Firsts.{pair_of}
 use Rattle.vlog_meaning.proofs.Steps as step

@@ -1,28 +1,20 @@
 -- The first fault of joined lists.
-use Rattle.std.proofs.Common.{◌≡◌, ℕ, Bool, true, false, ◌==◌, nat_lt, List, [], ◌∷◌, ◌++◌, map, refl, sym, ap, ◌∙◌, arith}
-use Rattle.std.specs.Prelude.{Option, None, Some, if◌then◌else◌}
-use Rattle.std.proofs.lemmas.Bool.Decides.{nat_tests}
-use Rattle.std.proofs.Common.{zero, suc, ◌<◌, length, get_or, take, append_assoc}
+use Rattle.vlog_meaning.proofs.Common.{◌≡◌, ℕ, Bool, true, false, ◌==◌, nat_lt, List, [], ◌∷◌, ◌++◌, map, refl, sym, ap, ◌∙◌, arith, Option, None, Some, if◌then◌else◌, nat_tests, zero, suc, ◌<◌}
+use Rattle.vlog_meaning.proofs.Common.{length, get_or, take, append_assoc, Expr, Names, sense, senses, all_signals, all_faults, all_zeros, own_zeros, Span, Fault, rank, precedes, earlier, least}
+use Rattle.vlog_meaning.proofs.Common.{least_at, fault}
 use Rattle.std.proofs.lemmas.List.{map-append, append-nil}
-use Rattle.vlog_syntax.specs.declared.expr.Expr.{Expr}
-use Rattle.vlog_meaning.specs.Scopes.{Names}
-use Rattle.vlog_meaning.specs.Senses.{sense, senses, all_signals, all_faults, all_zeros, own_zeros}
-use Rattle.mcy_base.specs.declared.span.Span.{Span}
 use Rattle.vlog_meaning.specs.declared.fault.Cause.{Cause}
-use Rattle.vlog_meaning.specs.declared.fault.Fault.{Fault}
-use Rattle.vlog_meaning.specs.Answers.{rank, precedes, earlier, least, least_at}
-use Rattle.vlog_meaning.specs.Senses.{fault}
 
-lex_later : (a b c : ℕ) (p q r : Bool) → (p ≡ false → q ≡ false → r ≡ false) → (if b == a then p else nat_lt b a) ≡ false → (if c == b then q else nat_lt c b) ≡ false → (if c == a then r else nat_lt c a) ≡ false
+pub lex_later : (a b c : ℕ) (p q r : Bool) → (p ≡ false → q ≡ false → r ≡ false) → (if b == a then p else nat_lt b a) ≡ false → (if c == b then q else nat_lt c b) ≡ false → (if c == a then r else nat_lt c a) ≡ false
 lex_later a b c p q r inner e f = grind (arith, nat_tests)
 
-lex_sooner : (a b c : ℕ) (p q r : Bool) → (p ≡ true → q ≡ true → r ≡ true) → (if b == a then p else nat_lt b a) ≡ true → (if c == b then q else nat_lt c b) ≡ true → (if c == a then r else nat_lt c a) ≡ true
+pub lex_sooner : (a b c : ℕ) (p q r : Bool) → (p ≡ true → q ≡ true → r ≡ true) → (if b == a then p else nat_lt b a) ≡ true → (if c == b then q else nat_lt c b) ≡ true → (if c == a then r else nat_lt c a) ≡ true
 lex_sooner a b c p q r inner e f = grind (arith, nat_tests)
 
-number_later : (a b c : ℕ) → nat_lt b a ≡ false → nat_lt c b ≡ false → nat_lt c a ≡ false
+pub number_later : (a b c : ℕ) → nat_lt b a ≡ false → nat_lt c b ≡ false → nat_lt c a ≡ false
 number_later a b c e f = grind (arith, nat_tests)
 
-number_sooner : (a b c : ℕ) → nat_lt b a ≡ true → nat_lt c b ≡ true → nat_lt c a ≡ true
+pub number_sooner : (a b c : ℕ) → nat_lt b a ≡ true → nat_lt c b ≡ true → nat_lt c a ≡ true
 number_sooner a b c e f = grind (arith, nat_tests)
 
 -- what does not come before does not come before what comes after

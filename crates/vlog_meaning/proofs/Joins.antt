@@ -1,11 +1,6 @@
 -- Bits put below other bits.
-use Rattle.std.proofs.Common.{◌≡◌, ℕ, zero, suc, ◌+◌, ◌*◌, ◌%◌, ◌<◌, ◌≤◌, ◌^◌, true, false, refl, arith, add-one}
+use Rattle.vlog_meaning.proofs.Common.{◌≡◌, ℕ, zero, suc, ◌+◌, ◌*◌, ◌%◌, ◌<◌, ◌≤◌, ◌^◌, true, false, refl, arith, add-one, pow-add, shl_whole, mul-le-mul_right, nat_tests, clog2, clog2_from, repeated}
 use Rattle.std.specs.Prelude.{nat_le}
-use Rattle.std.proofs.lemmas.Nat.{pow-add, shl_whole}
-use Rattle.std.proofs.Math.Nat.{mul-le-mul_right}
-use Rattle.std.proofs.lemmas.Bool.Decides.{nat_tests}
-use Rattle.vlog_meaning.specs.Integers.{clog2, clog2_from}
-use Rattle.vlog_meaning.specs.Senses.{repeated}
 
 pub joined_fits : (f k w v : ℕ) → f < 2 ^ k → v < 2 ^ w → f * 2 ^ w + v < 2 ^ (k + w)
 joined_fits f k w v small fits =

@@ -1,3 +1,4 @@
+mod Common
 pub mod Powers
 pub mod Signs
 pub mod Rounds

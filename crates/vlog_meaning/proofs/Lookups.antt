@@ -1,24 +1,16 @@
 -- A look-up in the map of a scope.
-use Rattle.std.proofs.Common.{◌≡◌, ℕ, List, [], ◌∷◌, map, refl, sym, ap, ◌∙◌, subst, cond, Bool, true, false, ◌&&◌, arith}
+use Rattle.vlog_meaning.proofs.Common.{◌≡◌, ℕ, List, [], ◌∷◌, map, refl, sym, ap, ◌∙◌, subst, cond, Bool, true, false, ◌&&◌, arith, bytes_eq, slice_cmp, slice_get, Option, None, Some, is_some}
+use Rattle.vlog_meaning.proofs.Common.{if◌then◌else◌, nat_tests, Word, Decl, Signal, Constant, names_of, entry_of, with_name, FitsWord, FitsWidth, FitsSignals, fits_width, fits_word}
 use Rattle.std.proofs.Math.Path.{fun_ext}
 use Rattle.std.specs.Map.{lookup}
 use Rattle.std.specs.BTreeMap.{BTreeMap, UpdatesBy, get_by, is_at}
 use Rattle.std.specs.String.{string_bytes, string_cmp}
-use Rattle.std.specs.Str.{bytes_eq}
-use Rattle.std.specs.Cmp.Lexicographic.{slice_cmp}
 use Rattle.std.specs.Ordering.{nat_cmp}
 use Rattle.std.specs.declared.string.String.{String}
 use Rattle.std.specs.declared.alloc.Global.{Global}
-use Rattle.std.specs.Prelude.{slice_get, Option, None, Some, is_some, if◌then◌else◌}
 use Rattle.std.specs.List.{AllZip, list_all}
-use Rattle.std.proofs.lemmas.Bool.Decides.{nat_tests}
 use Rattle.std.proofs.lemmas.Map.Text.{btree_map_updates_text}
 use Rattle.std.proofs.lemmas.Map.Text.{is_eq-slice_cmp}
-use Rattle.mcy_base.specs.declared.word.Word.{Word}
-use Rattle.vlog_meaning.specs.declared.scope.Decl.{Decl}
-use Rattle.vlog_meaning.specs.declared.scope.Decl.TheVariants.{Signal, Constant}
-use Rattle.vlog_meaning.specs.Scopes.{names_of, entry_of, with_name, FitsWord, FitsWidth, FitsSignals}
-use Rattle.vlog_meaning.specs.Fitting.{fits_width, fits_word}
 
 pub looked_up : (name : List ℕ) (es : List (String Global × Decl)) → lookup (is_at (λ k. slice_cmp nat_cmp name (string_bytes k))) es ≡ names_of (map entry_of es) name
 looked_up name [] = refl

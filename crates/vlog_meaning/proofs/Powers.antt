@@ -1,9 +1,5 @@
 -- Powers of 2 that fit.
-use Rattle.std.proofs.Common.{◌≡◌, ℕ, ◌+◌, ◌-◌, ◌*◌, ◌/◌, ◌%◌, ◌<◌, ◌≤◌, ◌^◌, arith}
-use Rattle.std.proofs.Math.Pow.{pow-lt, pow_mono, mod-mod-pow}
-use Rattle.std.proofs.Math.Nat.{div-eq_of_lt, mul-mod_left}
-use Rattle.std.proofs.lemmas.Nat.{pow-add}
-use Rattle.std.proofs.Common.{ap, sym, ◌∙◌, mul_assoc}
+use Rattle.vlog_meaning.proofs.Common.{◌≡◌, ℕ, ◌+◌, ◌-◌, ◌*◌, ◌/◌, ◌%◌, ◌<◌, ◌≤◌, ◌^◌, arith, pow-lt, pow_mono, mod-mod-pow, div-eq_of_lt, mul-mod_left, pow-add, ap, sym, ◌∙◌, mul_assoc}
 
 pub power_fits : (k : ℕ) → k < 128 → 2 ^ k < 2 ^ 128
 power_fits k h = pow-lt {i = k} {j = 128} h

@@ -1,27 +1,10 @@
 -- A value depends on the bits that are read.
-use Rattle.std.proofs.Common.{◌≡◌, ℕ, ◌<◌, ◌^◌, Bool, true, false, ◌&&◌, ◌||◌, ◌==◌, ℤ, pos, ◌-ℤ◌, List, [], ◌∷◌, map, refl, sym, subst, arith, nat_lt}
-use Rattle.std.specs.Prelude.{Option, None, Some, slice_get}
-use Rattle.std.proofs.lemmas.Bool.Decides.{nat_tests}
-use Rattle.std.proofs.lemmas.Nat.{pow_pos}
-use Rattle.std.proofs.lemmas.Nat.Bits.{same_from_bits_below}
-use Rattle.mcy_base.specs.declared.word.Word.{Word}
-use Rattle.vlog_syntax.specs.declared.expr.Expr.{Expr}
+use Rattle.vlog_meaning.proofs.Common.{◌≡◌, ℕ, ◌<◌, ◌^◌, Bool, true, false, ◌&&◌, ◌||◌, ◌==◌, ℤ, pos, ◌-ℤ◌, List, [], ◌∷◌, map, refl, sym, subst, arith, nat_lt, Option, None, Some, slice_get}
+use Rattle.vlog_meaning.proofs.Common.{nat_tests, pow_pos, same_from_bits_below, Word, Expr, Expr-F, roll-Expr, fold-roll-Expr, ind-Expr, map-Expr, Fault, Function, Signed, Unsigned, Clog2, Random}
+use Rattle.vlog_meaning.proofs.Common.{Time, Decl, Signal, Constant, Shape, function_of, window, natural, sizing, left_context, right_context, operand_context, Names, Store, decl_low, decl_value}
+use Rattle.vlog_meaning.proofs.Common.{store_of, word_bits, FitsWidth, FitsWord, IsWithin, AreWithin, Bits, Sense, sense, senses, step, index_of, either, all_reads, name_bits, part_bits, select_bits}
+use Rattle.vlog_meaning.proofs.Common.{is_among, constant_integer, joined, call_value, Agree, RestsOnReads, WordsAreWithin}
 use Rattle.vlog_syntax.specs.declared.expr.Expr.TheOpen as e
-use Rattle.vlog_syntax.specs.declared.expr.Expr.TheOpen.{Expr-F}
-use Rattle.vlog_syntax.specs.declared.expr.Expr.TheViews.{roll-Expr}
-use Rattle.vlog_syntax.specs.declared.expr.Expr.TheFolds.{fold-roll-Expr, ind-Expr, map-Expr}
-use Rattle.vlog_meaning.specs.declared.fault.Fault.{Fault}
-use Rattle.vlog_meaning.specs.declared.function.Function.{Function}
-use Rattle.vlog_meaning.specs.declared.function.Function.TheVariants.{Signed, Unsigned, Clog2, Random, Time}
-use Rattle.vlog_meaning.specs.declared.scope.Decl.{Decl}
-use Rattle.vlog_meaning.specs.declared.scope.Decl.TheVariants.{Signal, Constant}
-use Rattle.vlog_meaning.specs.declared.shapes.Shape.{Shape}
-use Rattle.vlog_meaning.specs.Functions.{function_of}
-use Rattle.vlog_meaning.specs.Integers.{window, natural}
-use Rattle.vlog_meaning.specs.Operators.{sizing, left_context, right_context, operand_context}
-use Rattle.vlog_meaning.specs.Scopes.{Names, Store, decl_low, decl_value, store_of, word_bits, FitsWidth, FitsWord, IsWithin, AreWithin}
-use Rattle.vlog_meaning.specs.Senses.{Bits, Sense, sense, senses, step, index_of, either, all_reads, name_bits, part_bits, select_bits, is_among, constant_integer, joined, call_value}
-use Rattle.vlog_meaning.specs.Laws.{Agree, RestsOnReads, WordsAreWithin}
 use Rattle.vlog_meaning.proofs.Settled.{settled}
 use Rattle.vlog_meaning.proofs.Windows.{window_same}
 
@@ -36,14 +19,14 @@ these_hold : (a b : Bool) → a ≡ true → a || b ≡ true
 these_hold true b h = refl
 these_hold false b h = cc
 
-those_hold : (a b : Bool) → b ≡ true → a || b ≡ true
+pub those_hold : (a b : Bool) → b ≡ true → a || b ≡ true
 those_hold true b h = refl
 those_hold false b h = h
 
-these_agree : (p q : Bits) (s t : Store) → Agree (either p q) s t → Agree p s t
+pub these_agree : (p q : Bits) (s t : Store) → Agree (either p q) s t → Agree p s t
 these_agree p q s t agree number at h = agree number at (these_hold (p number at) (q number at) h)
 
-those_agree : (p q : Bits) (s t : Store) → Agree (either p q) s t → Agree q s t
+pub those_agree : (p q : Bits) (s t : Store) → Agree (either p q) s t → Agree q s t
 those_agree p q s t agree number at h = agree number at (those_hold (p number at) (q number at) h)
 
 named : (number at width : ℕ) → at < width → number == number && nat_lt at width ≡ true
@@ -52,12 +35,12 @@ named number at width h = grind (arith, nat_tests)
 named_among : (number at width : ℕ) (b : Bool) → at < width → b ≡ true → (number == number && nat_lt at width) && b ≡ true
 named_among number at width b h e = rw (named number at width h, e) refl
 
-name_same : (d : Option Decl) (s t : Store) → IsWithin s d → IsWithin t d → Agree (name_bits d) s t → decl_value s d ≡ decl_value t d
+pub name_same : (d : Option Decl) (s t : Store) → IsWithin s d → IsWithin t d → Agree (name_bits d) s t → decl_value s d ≡ decl_value t d
 name_same (Some (Signal width low is_signed number)) s t within within_too agree = same_from_bits_below width (s number) (t number) within within_too (λ i h. agree number i (named number i width h))
 name_same (Some (Constant value low is_signed)) s t within within_too agree = refl
 name_same None s t within within_too agree = refl
 
-part_same : (d : Option Decl) (from : ℤ) (size : ℕ) (s t : Store) → IsWithin s d → IsWithin t d → Agree (part_bits d from size) s t → window from size (decl_value s d) ≡ window from size (decl_value t d)
+pub part_same : (d : Option Decl) (from : ℤ) (size : ℕ) (s t : Store) → IsWithin s d → IsWithin t d → Agree (part_bits d from size) s t → window from size (decl_value s d) ≡ window from size (decl_value t d)
 part_same (Some (Signal width low is_signed number)) from size s t within within_too agree = window_same from size width (s number) (t number) within within_too (λ i h e. agree number i (named_among number i width (is_among from size i) h e))
 part_same (Some (Constant value low is_signed)) from size s t within within_too agree = refl
 part_same None from size s t within within_too agree = refl

@@ -1,13 +1,6 @@
 -- Names that are declared again.
-use Rattle.std.proofs.Common.{◌≡◌, ℕ, Bool, true, false, refl, ap}
-use Rattle.std.specs.Prelude.{Option, Some, if◌then◌else◌}
-use Rattle.std.specs.Str.{bytes_eq}
-use Rattle.std.specs.Cmp.Lexicographic.{bytes_decides}
+use Rattle.vlog_meaning.proofs.Common.{◌≡◌, ℕ, Bool, true, false, refl, ap, Option, Some, if◌then◌else◌, bytes_eq, bytes_decides, Word, Decl, Signal, Constant, LastCounts, Restores, SignalsStay}
 use Rattle.std.proofs.Math.Path.{fun_ext}
-use Rattle.mcy_base.specs.declared.word.Word.{Word}
-use Rattle.vlog_meaning.specs.declared.scope.Decl.{Decl}
-use Rattle.vlog_meaning.specs.declared.scope.Decl.TheVariants.{Signal, Constant}
-use Rattle.vlog_meaning.specs.Laws.{LastCounts, Restores, SignalsStay}
 
 last_of : (b : Bool) (x y z : Option Decl) → (if b then x else (if b then y else z)) ≡ (if b then x else z)
 last_of true x y z = refl

@@ -1,12 +1,6 @@
 -- The first fault where one list of faults is looked at only if another is empty.
-use Rattle.std.proofs.Common.{◌≡◌, List, [], ◌∷◌, ◌++◌, refl, sym, ap, ◌∙◌, subst}
-use Rattle.std.specs.Prelude.{Option, None, Some}
-use Rattle.vlog_syntax.specs.declared.expr.Expr.{Expr}
-use Rattle.vlog_meaning.specs.declared.fault.Fault.{Fault}
-use Rattle.vlog_meaning.specs.declared.shapes.Shape.{Shape}
-use Rattle.vlog_meaning.specs.Scopes.{Names}
-use Rattle.vlog_meaning.specs.Answers.{least, earlier}
-use Rattle.vlog_meaning.specs.Senses.{Sense, sense, senses, or_else, not_constant, constant_faults, constant_faults_at, all_faults, IsWhole, AreWhole}
+use Rattle.vlog_meaning.proofs.Common.{◌≡◌, List, [], ◌∷◌, ◌++◌, refl, sym, ap, ◌∙◌, subst, Option, None, Some, Expr, Fault, Shape, Names, least, earlier, Sense, sense, senses, or_else, not_constant}
+use Rattle.vlog_meaning.proofs.Common.{constant_faults, constant_faults_at, all_faults, IsWhole, AreWhole}
 use Rattle.vlog_meaning.proofs.Blanks.{left_nil, right_nil, these_nil}
 use Rattle.vlog_meaning.proofs.Firsts.{least_none, least_append}
 
@@ -26,7 +20,7 @@ passed xs ys o r is none e = let P : List Fault → Type 0 = λ zs. r ≡ least 
 pub pair_first : (xs ys : List Fault) (a b r : Option Fault) → r ≡ earlier a b → a ≡ least xs → b ≡ least ys → r ≡ least (xs ++ ys)
 pair_first xs ys a b r is left right = is ∙ ap (λ (o : Option Fault). earlier o b) left ∙ ap (earlier (least xs)) right ∙ sym (least_append xs ys)
 
-constant_whole : (a : Sense) → constant_faults a ≡ [] → a.faults ≡ []
+pub constant_whole : (a : Sense) → constant_faults a ≡ [] → a.faults ≡ []
 constant_whole a e = right_nil _ _ (these_nil _ _ e)
 
 pub constant_is_whole : (names : Names) (e : Expr) (o : Option Fault) → o ≡ least (constant_faults (sense names e)) → o ≡ None → IsWhole names e

@@ -1,17 +1,9 @@
 -- Contexts of operands, and values that fit, in the terms of the calls.
-use Rattle.std.proofs.Common.{◌≡◌, ℕ, zero, suc, ◌+◌, ◌*◌, ◌<◌, ◌≤◌, ◌^◌, List, [], ◌∷◌, get_or, length, drop, take, refl, sym, ap, ◌∙◌, arith, subst}
-use Rattle.std.proofs.lemmas.Nat.{pow-add}
-use Rattle.mcy_base.specs.declared.span.Span.{Span}
-use Rattle.vlog_syntax.specs.declared.operator.UnaryOperator.{UnaryOperator}
-use Rattle.vlog_syntax.specs.declared.operator.BinaryOperator.{BinaryOperator}
-use Rattle.vlog_syntax.specs.declared.expr.Expr.{Expr}
+use Rattle.vlog_meaning.proofs.Common.{◌≡◌, ℕ, zero, suc, ◌+◌, ◌*◌, ◌<◌, ◌≤◌, ◌^◌, List, [], ◌∷◌, get_or, length, drop, take, refl, sym, ap, ◌∙◌, arith, subst, pow-add, Span, UnaryOperator}
+use Rattle.vlog_meaning.proofs.Common.{BinaryOperator, Expr, Shape, Sizing, IsSized, ArePaired, sizing, pair_shape, left_context, right_context, result_width, unary_shape, operand_context}
+use Rattle.vlog_meaning.proofs.Common.{unary_value, binary_value, Names, Sense, sense, senses, IsContext, total_width}
 use Rattle.vlog_syntax.specs.declared.expr.Expr.TheVariants as v
-use Rattle.vlog_meaning.specs.declared.shapes.Shape.{Shape}
-use Rattle.vlog_meaning.specs.declared.operator.Sizing.{Sizing}
 use Rattle.vlog_meaning.specs.declared.operator.Sizing.TheVariants.{Common, Left, Compared, Apart}
-use Rattle.vlog_meaning.specs.Operators.{IsSized, ArePaired, sizing, pair_shape, left_context, right_context, result_width, unary_shape, operand_context, unary_value, binary_value}
-use Rattle.vlog_meaning.specs.Scopes.{Names}
-use Rattle.vlog_meaning.specs.Senses.{Sense, sense, senses, IsContext, total_width}
 use Rattle.vlog_meaning.proofs.Steps as step
 use Rattle.vlog_meaning.proofs.Contexts.{left_within, right_within, joint_left, joint_right, pair_fits, binary_fits, unary_fits, unary_some, are_paired, wider}
 

@@ -1,12 +1,7 @@
 -- What one round of a loop over a number's bits keeps.
-use Rattle.std.proofs.Common.{◌≡◌, ℕ, zero, suc, ◌+◌, ◌*◌, ◌/◌, ◌%◌, ◌<◌, ◌≤◌, ◌^◌, false, ℤ, nat_abs, refl, sym, ap, ◌∙◌, arith, mul_assoc}
-use Rattle.std.specs.Prelude.{int_rem, ◌≢◌, ◌==◌, if◌then◌else◌}
-use Rattle.std.proofs.Common.{inl, inr}
-use Rattle.std.proofs.lemmas.Bool.Decides.{eqb_tells}
-use Rattle.std.proofs.lemmas.Nat.{pow-add, mul-pow, mul-mod_first, mul-mod_second, pow-mod}
-use Rattle.std.proofs.Math.Nat.{mod-eq_of_lt, mod-le, pow-suc, pow-zero}
-use Rattle.vlog_meaning.specs.declared.shapes.Shape.{Shape}
-use Rattle.vlog_meaning.specs.Integers.{is_negative, integer, low_bits, parity}
+use Rattle.vlog_meaning.proofs.Common.{◌≡◌, ℕ, zero, suc, ◌+◌, ◌*◌, ◌/◌, ◌%◌, ◌<◌, ◌≤◌, ◌^◌, false, ℤ, nat_abs, refl, sym, ap, ◌∙◌, arith, mul_assoc, int_rem, ◌≢◌, if◌then◌else◌, inl, inr, eqb_tells}
+use Rattle.vlog_meaning.proofs.Common.{pow-add, mul-pow, mul-mod_first, mul-mod_second, pow-mod, mod-eq_of_lt, mod-le, pow-suc, pow-zero, Shape, is_negative, integer, low_bits, parity}
+use Rattle.std.specs.Prelude.{◌==◌}
 use Rattle.vlog_meaning.proofs.Signs.{integer_positive}
 
 -- an even power is a power of the square

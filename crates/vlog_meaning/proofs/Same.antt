@@ -1,17 +1,10 @@
 -- Expressions that say the same, with literals in the places of constants.
-use Rattle.std.proofs.Common.{◌≡◌, ℕ, ◌*◌, ◌<◌, ◌^◌, Bool, true, false, ℤ, pos, ◌-ℤ◌, List, [], ◌∷◌, ◌++◌, length, get_or, take, suc, zero, refl, sym, ap, ◌∙◌, arith}
-use Rattle.mcy_base.specs.declared.span.Span.{Span}
-use Rattle.vlog_syntax.specs.declared.identifier.Number.{Number}
-use Rattle.vlog_syntax.specs.declared.identifier.Identifier.{Identifier}
-use Rattle.vlog_syntax.specs.declared.expr.Expr.{Expr}
+use Rattle.vlog_meaning.proofs.Common.{◌≡◌, ℕ, ◌*◌, ◌<◌, ◌^◌, Bool, true, false, ℤ, pos, ◌-ℤ◌, List, [], ◌∷◌, ◌++◌, length, get_or, take, suc, zero, refl, sym, ap, ◌∙◌, arith, Span, Number}
+use Rattle.vlog_meaning.proofs.Common.{Identifier, Expr, Fault, Shape, integer, natural, extended, window, is_negative, Names, Store, nothing, store_of, decl_low, decl_value, Sense, step, sense}
+use Rattle.vlog_meaning.proofs.Common.{senses, own, index_of, constant_integer, constant_faults, or_else, unsigned, part_width, total_width, repeated, joined, part_bits, select_bits, all_reads}
+use Rattle.vlog_meaning.proofs.Common.{name_signals, all_signals, name_faults, range_faults, all_faults, sized, counted, index_features, all_features, own_zeros, all_zeros, IsWhole, IsLiteral}
 use Rattle.vlog_syntax.specs.declared.expr.Expr.TheOpen as e
 use Rattle.vlog_syntax.specs.declared.expr.Expr.TheVariants as v
-use Rattle.vlog_meaning.specs.declared.fault.Fault.{Fault}
-use Rattle.vlog_meaning.specs.declared.shapes.Shape.{Shape}
-use Rattle.vlog_meaning.specs.Integers.{integer, natural, extended, window, is_negative}
-use Rattle.vlog_meaning.specs.Scopes.{Names, Store, nothing, store_of, decl_low, decl_value}
-use Rattle.vlog_meaning.specs.Senses.{Sense, step, sense, senses, own, index_of, constant_integer, constant_faults, or_else, unsigned, part_width, total_width, repeated, joined, part_bits, select_bits, all_reads, name_signals, all_signals, name_faults, range_faults, all_faults, sized, counted, index_features, all_features, own_zeros, all_zeros, IsWhole}
-use Rattle.vlog_meaning.specs.Literals.{IsLiteral}
 use Rattle.vlog_meaning.proofs.Blanks.{left_nil, right_nil, these_nil}
 use Rattle.vlog_meaning.proofs.Signs.{extended_negative, extended_positive}
 use Rattle.vlog_meaning.proofs.Steps as step_of
@@ -46,7 +39,7 @@ literal_number names x n s u wide bits sign shaped valued =
 
 -- Literals in the places of constants: the expression asks of a constant for its integer alone, and has nothing wrong in it.
 
-no_signals : (a : Sense) → constant_faults a ≡ [] → a.signals ≡ []
+pub no_signals : (a : Sense) → constant_faults a ≡ [] → a.signals ≡ []
 no_signals a h = left_nil _ _ (these_nil _ _ h)
 
 -- a part select, of its bounds' integers, their signals and what is wrong in them

@@ -1,22 +1,8 @@
 -- A constant has one value, whatever the signals are.
-use Rattle.std.proofs.Common.{◌≡◌, List, [], ◌∷◌, ◌++◌, map, refl, sym, subst}
-use Rattle.std.specs.Prelude.{Option, None, Some}
-use Rattle.mcy_base.specs.declared.span.Span.{Span}
-use Rattle.vlog_syntax.specs.declared.expr.Expr.{Expr}
+use Rattle.vlog_meaning.proofs.Common.{◌≡◌, List, [], ◌∷◌, ◌++◌, map, refl, sym, subst, Option, None, Some, Span, Expr, Expr-F, roll-Expr, fold-roll-Expr, ind-Expr, map-Expr, Function, Signed}
+use Rattle.vlog_meaning.proofs.Common.{Unsigned, Clog2, Random, Time, Decl, Signal, Constant, Shape, function_of, sizing, left_context, right_context, operand_context, Names, Store, nothing}
+use Rattle.vlog_meaning.proofs.Common.{decl_value, Sense, sense, senses, step, name_signals, call_signals, all_signals, joined, call_value, IsSettled}
 use Rattle.vlog_syntax.specs.declared.expr.Expr.TheOpen as e
-use Rattle.vlog_syntax.specs.declared.expr.Expr.TheOpen.{Expr-F}
-use Rattle.vlog_syntax.specs.declared.expr.Expr.TheViews.{roll-Expr}
-use Rattle.vlog_syntax.specs.declared.expr.Expr.TheFolds.{fold-roll-Expr, ind-Expr, map-Expr}
-use Rattle.vlog_meaning.specs.declared.function.Function.{Function}
-use Rattle.vlog_meaning.specs.declared.function.Function.TheVariants.{Signed, Unsigned, Clog2, Random, Time}
-use Rattle.vlog_meaning.specs.declared.scope.Decl.{Decl}
-use Rattle.vlog_meaning.specs.declared.scope.Decl.TheVariants.{Signal, Constant}
-use Rattle.vlog_meaning.specs.declared.shapes.Shape.{Shape}
-use Rattle.vlog_meaning.specs.Functions.{function_of}
-use Rattle.vlog_meaning.specs.Operators.{sizing, left_context, right_context, operand_context}
-use Rattle.vlog_meaning.specs.Scopes.{Names, Store, nothing, decl_value}
-use Rattle.vlog_meaning.specs.Senses.{Sense, sense, senses, step, name_signals, call_signals, all_signals, joined, call_value}
-use Rattle.vlog_meaning.specs.Laws.{IsSettled}
 use Rattle.vlog_meaning.proofs.Blanks.{left_nil, right_nil}
 
 abbrev Settles : Names → Expr → Type 0

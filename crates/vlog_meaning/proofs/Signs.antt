@@ -1,9 +1,7 @@
 -- Negative numbers.
-use Rattle.std.proofs.Common.{◌≡◌, ℕ, ◌+◌, ◌-◌, ◌/◌, ◌%◌, ◌<◌, ◌≤◌, ◌^◌, true, false, pos, negsuc, ◌-ℤ◌, refl, arith}
+use Rattle.vlog_meaning.proofs.Common.{◌≡◌, ℕ, ◌+◌, ◌-◌, ◌/◌, ◌%◌, ◌<◌, ◌≤◌, ◌^◌, true, false, pos, negsuc, ◌-ℤ◌, refl, arith, mod-eq_of_lt, div-le_self, Shape, is_negative, integer, low_bits}
+use Rattle.vlog_meaning.proofs.Common.{extended, halved}
 use Rattle.std.proofs.lemmas.Int.{ints}
-use Rattle.std.proofs.Math.Nat.{mod-eq_of_lt, div-le_self}
-use Rattle.vlog_meaning.specs.declared.shapes.Shape.{Shape}
-use Rattle.vlog_meaning.specs.Integers.{is_negative, integer, low_bits, extended, halved}
 use Rattle.vlog_meaning.proofs.Powers.{power_le}
 
 pub difference_negative : (v m : ℕ) → v < m → pos v -ℤ pos m ≡ negsuc (m - 1 - v)

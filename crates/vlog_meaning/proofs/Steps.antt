@@ -1,16 +1,7 @@
 -- What an expression of each production says, from what its parts say.
-use Rattle.std.proofs.Common.{◌≡◌, List, sym, ap, ◌∙◌}
-use Rattle.mcy_base.specs.declared.span.Span.{Span}
-use Rattle.vlog_syntax.specs.declared.identifier.Number.{Number}
-use Rattle.vlog_syntax.specs.declared.identifier.Identifier.{Identifier}
-use Rattle.vlog_syntax.specs.declared.operator.UnaryOperator.{UnaryOperator}
-use Rattle.vlog_syntax.specs.declared.operator.BinaryOperator.{BinaryOperator}
-use Rattle.vlog_syntax.specs.declared.expr.Expr.{Expr}
+use Rattle.vlog_meaning.proofs.Common.{◌≡◌, List, sym, ap, ◌∙◌, Span, Number, Identifier, UnaryOperator, BinaryOperator, Expr, fold-roll-Expr, Names, Sense, step, sense, senses}
 use Rattle.vlog_syntax.specs.declared.expr.Expr.TheOpen as e
 use Rattle.vlog_syntax.specs.declared.expr.Expr.TheVariants as v
-use Rattle.vlog_syntax.specs.declared.expr.Expr.TheFolds.{fold-roll-Expr}
-use Rattle.vlog_meaning.specs.Scopes.{Names}
-use Rattle.vlog_meaning.specs.Senses.{Sense, step, sense, senses}
 
 pub sense_number : (names : Names) (n : Number) → sense names (v.Number n) ≡ step names (e.Number n)
 sense_number names n = ap (sense names) (sym (v.rolls-Number n)) ∙ fold-roll-Expr Sense (step names) (e.Number n)

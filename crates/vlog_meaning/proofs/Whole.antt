@@ -1,30 +1,14 @@
 -- The parts of an expression with a shape have shapes.
-use Rattle.std.proofs.Common.{◌≡◌, ℕ, zero, suc, ◌+◌, ◌*◌, ◌<◌, ◌≤◌, ◌^◌, Bool, true, false, ◌&&◌, ℤ, List, [], ◌∷◌, ◌++◌, length, get_or, refl, sym, ap, ◌∙◌, arith, nat_le, subst}
-use Rattle.std.specs.Prelude.{int_lt, if◌then◌else◌, Some, None, Option}
-use Rattle.std.proofs.lemmas.Bool.Decides.{nat_tests}
-use Rattle.mcy_base.specs.declared.span.Span.{Span}
-use Rattle.vlog_syntax.specs.declared.identifier.Identifier.{Identifier}
-use Rattle.vlog_syntax.specs.declared.operator.UnaryOperator.{UnaryOperator}
-use Rattle.vlog_syntax.specs.declared.operator.BinaryOperator.{BinaryOperator}
-use Rattle.vlog_syntax.specs.declared.expr.Expr.{Expr}
+use Rattle.vlog_meaning.proofs.Common.{◌≡◌, ℕ, zero, suc, ◌+◌, ◌*◌, ◌<◌, ◌≤◌, ◌^◌, Bool, true, false, ◌&&◌, ℤ, List, [], ◌∷◌, ◌++◌, length, get_or, refl, sym, ap, ◌∙◌, arith, nat_le, subst, int_lt}
+use Rattle.vlog_meaning.proofs.Common.{if◌then◌else◌, Some, None, Option, nat_tests, Span, Identifier, UnaryOperator, BinaryOperator, Expr, Fault, Function, Signed, Unsigned, Clog2, Random, Time}
+use Rattle.vlog_meaning.proofs.Common.{Decl, Signal, Constant, Shape, function_of, natural, IsSized, Names, decl_shape, FitsSignals, FitsWord, Sense, sense, senses, constant_integer, sized}
+use Rattle.vlog_meaning.proofs.Common.{range_faults, name_faults, part_width, total_width, all_faults, call_faults, IsWhole, AreWhole, IsWholeCall, clog2, Store, nothing, store_of, IsContext}
+use Rattle.vlog_meaning.proofs.Common.{call_shape, call_value, own}
 use Rattle.vlog_syntax.specs.declared.expr.Expr.TheVariants as v
-use Rattle.vlog_meaning.specs.declared.fault.Fault.{Fault}
-use Rattle.vlog_meaning.specs.declared.function.Function.{Function}
-use Rattle.vlog_meaning.specs.declared.function.Function.TheVariants.{Signed, Unsigned, Clog2, Random, Time}
-use Rattle.vlog_meaning.specs.declared.scope.Decl.{Decl}
-use Rattle.vlog_meaning.specs.declared.scope.Decl.TheVariants.{Signal, Constant}
-use Rattle.vlog_meaning.specs.declared.shapes.Shape.{Shape}
-use Rattle.vlog_meaning.specs.Functions.{function_of}
-use Rattle.vlog_meaning.specs.Integers.{natural}
-use Rattle.vlog_meaning.specs.Operators.{IsSized}
-use Rattle.vlog_meaning.specs.Scopes.{Names, decl_shape, FitsSignals, FitsWord}
-use Rattle.vlog_meaning.specs.Senses.{Sense, sense, senses, constant_integer, constant_faults, sized, range_faults, name_faults, part_width, total_width, all_faults, call_faults, IsWhole, AreWhole, IsWholeCall}
 use Rattle.vlog_meaning.proofs.Blanks.{left_nil, right_nil, these_nil, those_nil}
-use Rattle.vlog_meaning.specs.Integers.{clog2}
-use Rattle.vlog_meaning.specs.Scopes.{Store, nothing, store_of}
-use Rattle.vlog_meaning.specs.Senses.{IsContext, call_shape, call_value, own}
 use Rattle.vlog_meaning.proofs.Contexts.{wider}
 use Rattle.vlog_meaning.proofs.Steps as step
+use Rattle.vlog_meaning.proofs.Refusals.{constant_whole}
 
 pub says : (names : Names) (e : Expr) (x : Sense) → sense names e ≡ x → IsWhole names e → x.faults ≡ []
 says names e x is whole = ap (λ (y : Sense). y.faults) (sym is) ∙ whole
@@ -33,7 +17,7 @@ test_holds : (b : Bool) (x : Fault) → (if b then [] else x ∷ []) ≡ [] → 
 test_holds true x e = refl
 test_holds false x e = cc
 
-test_fails : (b : Bool) (x : Fault) (more : List Fault) → (if b then x ∷ [] else more) ≡ [] → more ≡ []
+pub test_fails : (b : Bool) (x : Fault) (more : List Fault) → (if b then x ∷ [] else more) ≡ [] → more ≡ []
 test_fails true x more e = cc
 test_fails false x more e = e
 
@@ -48,9 +32,6 @@ range_within span msb lsb e = sized_within span (part_width msb lsb) (test_fails
 joined_nil : (xs : List Fault) → xs ≡ [] → xs ++ [] ≡ []
 joined_nil [] e = refl
 joined_nil (x ∷ xs) e = cc
-
-constant_whole : (a : Sense) → constant_faults a ≡ [] → a.faults ≡ []
-constant_whole a e = right_nil _ _ (these_nil _ _ e)
 
 pub name_sized : (span : Span) (decl : Option Decl) → name_faults span decl ≡ [] → IsSized (decl_shape decl)
 name_sized span (Some (Signal width low is_signed number)) e = let w = sized_within span width e in record { some = w.0; narrow = w.1 }

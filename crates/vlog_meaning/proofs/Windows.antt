@@ -1,12 +1,7 @@
 -- Windows of numbers that have bits in common.
-use Rattle.std.proofs.Common.{◌≡◌, ℕ, ◌+◌, ◌-◌, ◌*◌, ◌/◌, ◌%◌, ◌<◌, ◌≤◌, ◌^◌, Bool, true, false, ℤ, pos, negsuc, refl, sym, ap, ◌∙◌, arith, nat_le, nat_lt}
+use Rattle.vlog_meaning.proofs.Common.{◌≡◌, ℕ, ◌+◌, ◌-◌, ◌*◌, ◌/◌, ◌%◌, ◌<◌, ◌≤◌, ◌^◌, Bool, true, false, ℤ, pos, negsuc, refl, sym, ap, ◌∙◌, arith, nat_le, nat_lt, mod-mod-pow, nat_tests}
+use Rattle.vlog_meaning.proofs.Common.{mod-pow-add, mod_low, mod_below, pow_pos, pow-add, shl-shr, shr-shr, shr_high, same_from_bits_below, window, is_among}
 use Rattle.std.specs.Int.{bit_at}
-use Rattle.std.proofs.Math.Pow.{mod-mod-pow}
-use Rattle.std.proofs.lemmas.Bool.Decides.{nat_tests}
-use Rattle.std.proofs.lemmas.Nat.{mod-pow-add, mod_low, mod_below, pow_pos, pow-add, shl-shr, shr-shr, shr_high}
-use Rattle.std.proofs.lemmas.Nat.Bits.{same_from_bits_below}
-use Rattle.vlog_meaning.specs.Integers.{window}
-use Rattle.vlog_meaning.specs.Senses.{is_among}
 use Rattle.vlog_meaning.proofs.Powers.{power_le}
 
 -- a bit, from the lowest bits alone

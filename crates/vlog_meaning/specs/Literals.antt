@@ -2,6 +2,8 @@
 use Rattle.std.specs.Prelude.{◌≡◌, []}
 use Rattle.vlog_meaning.specs.Senses.{Sense, constant_integer, constant_faults}
 
+-- For proofs alone.
+
 -- a constant of the same integer, in which nothing is wrong
 pub record IsLiteral (x a : Sense) : Type 0 where
   pub integer : constant_integer x ≡ constant_integer a

@@ -369,15 +369,17 @@ IsWhole names e = (sense names e).faults ≡ []
 abbrev pub AreWhole : Names → List Expr → Type 0
 AreWhole names es = all_faults (senses names es) ≡ []
 
+-- the context has at least the width of the shape, and is signed only where the shape is
+pub record IsContext (s c : Shape) : Type 0 where
+  pub wide : s.width ≤ c.width
+  pub narrow : c.width ≤ 128
+  pub sign : c.is_signed ≡ true → s.is_signed ≡ true
+
+-- For proofs alone.
+
 -- nothing is wrong with the arguments of a call
 abbrev pub IsWholeCall : Option Function → List Sense → Type 0
 IsWholeCall (Some Signed) (a ∷ []) = a.faults ≡ []
 IsWholeCall (Some Unsigned) (a ∷ []) = a.faults ≡ []
 IsWholeCall (Some Clog2) (a ∷ []) = a.faults ≡ []
 IsWholeCall function arguments = Unit {0}
-
--- the context has at least the width of the shape, and is signed only where the shape is
-pub record IsContext (s c : Shape) : Type 0 where
-  pub wide : s.width ≤ c.width
-  pub narrow : c.width ≤ 128
-  pub sign : c.is_signed ≡ true → s.is_signed ≡ true

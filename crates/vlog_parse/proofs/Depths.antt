@@ -1,17 +1,9 @@
 -- How deep the constructs of a text are, by its trees and by its steps.
-use Rattle.std.proofs.Common.{◌≡◌, ℕ, zero, suc, ◌-◌, Bool, true, false, if◌then◌else◌, List, [], ◌∷◌, ◌++◌, Option, Some, None, length, take, refl, sym, ap, ◌∙◌, append_assoc, eq-eqb, arith}
-use Rattle.std.proofs.lemmas.Bool.{ne_eqb}
+use Rattle.vlog_parse.proofs.Common.{◌≡◌, ℕ, zero, suc, ◌-◌, Bool, true, false, if◌then◌else◌, List, [], ◌∷◌, ◌++◌, Option, Some, None, length, take, refl, sym, ap, ◌∙◌, append_assoc, eq-eqb, arith}
+use Rattle.vlog_parse.proofs.Common.{ne_eqb, Rule, Step, Classed, Symbol, parts_of, Trees, Nil, Leaf, Node, tokens_of, steps_of, Derives, IsText, steps_for, taken, Row, behind, begun, begun_by}
+use Rattle.vlog_parse.proofs.Common.{closed, depths, depths_in, ended, ended_by, is_construct, outermost, reached, settled, walked}
 use Rattle.std.specs.Prelude.{◌==◌, ◌&&◌}
-use Rattle.vlog_grammar.specs.declared.rule.Rule.{Rule}
-use Rattle.vlog_grammar.specs.declared.step.Step.{Step}
 use Rattle.vlog_grammar.specs.declared.step.Step.TheVariants.{Take, Begin}
-use Rattle.vlog_grammar.specs.declared.step.Token.{Token as Classed}
-use Rattle.vlog_grammar.specs.declared.table.Symbol.{Symbol}
-use Rattle.vlog_grammar.specs.Grammar.{parts_of}
-use Rattle.vlog_grammar.specs.Trees.{Trees, Nil, Leaf, Node, tokens_of, steps_of, Derives}
-use Rattle.vlog_grammar.specs.Reading.{IsText, steps_for, taken}
-use Rattle.vlog_parse.specs.declared.nesting.Row.{Row}
-use Rattle.vlog_parse.specs.Nesting.{behind, begun, begun_by, closed, depths, depths_in, ended, ended_by, is_construct, outermost, reached, settled, walked}
 
 closed_done : (row : Row) (rows : List (Row × Rule)) → (row.parts == 0) ≡ false → closed row rows ≡ (row, rows)
 closed_done row [] h = refl

@@ -1,3 +1,4 @@
+mod Common
 pub mod Depths
 pub mod Readings
 pub mod OneAnswer
@@ -6,3 +7,4 @@ pub mod RuleNests
 pub mod RowNests
 pub mod ModuleNests
 pub mod Parses
+mod PartsThere

@@ -1,34 +1,14 @@
 -- How deep the modules of a text nest, where no token of it is too deep.
-use Rattle.std.proofs.Common.{◌≡◌, ℕ, ◌+◌, ◌-◌, ◌≤◌, max, false, List, [], ◌∷◌, ◌++◌, refl, sym, ap, subst, ◌∙◌, arith}
-use Rattle.std.specs.List.{All}
+use Rattle.vlog_parse.proofs.Common.{◌≡◌, ℕ, ◌+◌, ◌-◌, ◌≤◌, max, false, List, [], ◌∷◌, ◌++◌, refl, sym, ap, subst, ◌∙◌, arith, All, Token, Module, module_nest, Rule, Classed, Symbol, Is, Refused, Of}
+use Rattle.vlog_parse.proofs.Common.{production, kind_of, parts_of, Trees, Nil, Leaf, Node, Derives, tokens_of, start, Value, first, rest, made_module, made_item, made_event, made_passed}
+use Rattle.vlog_parse.proofs.Common.{made_statement, made_expression, leaf, made, means, Row, AllShallow, begun, behind, depths_in, ended, outermost, reached, settled, AreParsed}
 use Rattle.std.proofs.lemmas.List.Elements.{All-nil, All-cons}
-use Rattle.vlog_token.specs.declared.token.Token.{Token}
-use Rattle.vlog_syntax.specs.declared.module.Module.{Module}
-use Rattle.vlog_syntax.specs.Nesting.{module_nest}
 use Rattle.vlog_grammar.specs.declared.class.Class.{Class}
 use Rattle.vlog_grammar.specs.declared.class.Class.TheVariants as c
 use Rattle.vlog_grammar.specs.declared.rule.Kind.TheVariants as k
-use Rattle.vlog_grammar.specs.declared.rule.Rule.{Rule}
 use Rattle.vlog_grammar.specs.declared.rule.Rule.TheVariants as r
-use Rattle.vlog_grammar.specs.declared.step.Token.{Token as Classed}
-use Rattle.vlog_grammar.specs.declared.table.Symbol.{Symbol}
-use Rattle.vlog_grammar.specs.declared.table.Symbol.TheVariants.{Is, Refused, Of}
-use Rattle.vlog_grammar.specs.Grammar.{production, kind_of, parts_of}
-use Rattle.vlog_grammar.specs.Trees.{Trees, Nil, Leaf, Node, Derives, tokens_of}
-use Rattle.vlog_grammar.specs.Reading.{start}
-use Rattle.vlog_parts.specs.declared.value.Value.{Value}
-use Rattle.vlog_parts.specs.Values.{first, rest, modules_of}
-use Rattle.vlog_declarations.specs.Modules.{made_module}
-use Rattle.vlog_items.specs.Items.{made_item}
+use Rattle.vlog_parts.specs.Values.{modules_of}
 use Rattle.vlog_declarations.specs.Declarations.{made_declaration}
-use Rattle.vlog_statements.specs.Events.{made_event}
-use Rattle.vlog_trees.specs.Passed.{made_passed}
-use Rattle.vlog_statements.specs.Statements.{made_statement}
-use Rattle.vlog_trees.specs.Expressions.{made_expression}
-use Rattle.vlog_trees.specs.Meaning.{leaf, made, means}
-use Rattle.vlog_parse.specs.declared.nesting.Row.{Row}
-use Rattle.vlog_parse.specs.Nesting.{AllShallow, begun, behind, depths_in, ended, outermost, reached, settled}
-use Rattle.vlog_parse.specs.Parsing.{AreParsed}
 use Rattle.vlog_parse.proofs.Nests.{nest, part_deep}
 use Rattle.vlog_parse.proofs.RuleNests.{AllWithin}
 use Rattle.vlog_parse.proofs.RowNests.{Rows, ended-operator, leaf_part, node_grows, part_of, rows_within, settled_plain}
@@ -156,5 +136,5 @@ sources ts (s ∷ ss) (Node rule parts f) after row d shallow =
 -- what is parsed nests at most 200 deep
 pub modules_nest : (tokens : List Token) (ms : List Module) → AreParsed tokens ms → All (λ m. module_nest m ≤ 200) ms
 modules_nest tokens ms parsed =
-    let sourced = sources tokens start parsed.text [] outermost parsed.trees.is_text parsed.shallow in
-    subst (All (λ m. module_nest m ≤ 200)) (sym parsed.mean) sourced.0
+    let sourced = sources tokens start parsed.are.text [] outermost parsed.are.trees.is_text parsed.shallow in
+    subst (All (λ m. module_nest m ≤ 200)) (sym parsed.are.mean) sourced.0

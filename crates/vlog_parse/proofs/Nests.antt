@@ -1,30 +1,22 @@
 -- How deep a part nests, by its kind.
 use Rattle.std.specs.Prelude.{ℕ, ◌+◌, max, Bool, true, false, List, [], ◌∷◌, map, Option, Some, None}
-use Rattle.vlog_syntax.specs.declared.expr.Expr.{Expr}
-use Rattle.vlog_syntax.specs.declared.stmt.Stmt.{Stmt}
-use Rattle.vlog_syntax.specs.declared.item.Item.{Item}
+use Rattle.vlog_parse.proofs.Common.{Expr, Stmt, Item, ParameterAssignment, greatest, expr_nest, part_nest, left_nest, assignment_nest, argument_nest, stmt_nest, case_item_nest, range_nest}
+use Rattle.vlog_parse.proofs.Common.{data_type_nest, names_nest, port_nest, parameter_type_nest, parameter_nest, delay_nest, named_nest, connections_nest, parameter_values_nest, block_nest, item_nest}
+use Rattle.vlog_parse.proofs.Common.{ports_nest, Kind, Symbol, Is, Refused, Of, BraceEnd, Select, SelectEnd, MoreParameters, ParameterPort, Value}
 use Rattle.vlog_syntax.specs.declared.item.Instance.{Instance}
-use Rattle.vlog_syntax.specs.declared.item.ParameterAssignment.{ParameterAssignment}
 use Rattle.vlog_syntax.specs.declared.item.ParameterDeclaration.{ParameterDeclaration}
-use Rattle.vlog_syntax.specs.Nesting.{greatest, expr_nest, part_nest, left_nest, assignment_nest, argument_nest, stmt_nest, case_item_nest, range_nest, data_type_nest, names_nest, port_nest, parameter_type_nest, parameter_nest, delay_nest, named_nest, connections_nest, parameter_values_nest, block_nest, item_nest, ports_nest}
-use Rattle.vlog_grammar.specs.declared.rule.Kind.{Kind}
 use Rattle.vlog_grammar.specs.declared.rule.Kind.TheVariants as k
-use Rattle.vlog_grammar.specs.declared.table.Symbol.{Symbol}
-use Rattle.vlog_grammar.specs.declared.table.Symbol.TheVariants.{Is, Refused, Of}
 use Rattle.vlog_parts.specs.declared.declaration_parts.OutputNames.{OutputNames}
-use Rattle.vlog_parts.specs.declared.expression_parts.BraceEnd.{BraceEnd}
 use Rattle.vlog_parts.specs.declared.expression_parts.BraceEnd.TheVariants as be
-use Rattle.vlog_parts.specs.declared.expression_parts.Select.{Select}
 use Rattle.vlog_parts.specs.declared.expression_parts.Select.TheVariants as s
-use Rattle.vlog_parts.specs.declared.expression_parts.SelectEnd.{SelectEnd}
 use Rattle.vlog_parts.specs.declared.expression_parts.SelectEnd.TheVariants as se
-use Rattle.vlog_parts.specs.declared.module_parts.MoreParameters.{MoreParameters}
 use Rattle.vlog_parts.specs.declared.module_parts.MorePorts.{MorePorts}
 use Rattle.vlog_parts.specs.declared.module_parts.OutputPorts.{OutputPorts}
-use Rattle.vlog_parts.specs.declared.module_parts.ParameterPort.{ParameterPort}
 use Rattle.vlog_parts.specs.declared.module_parts.ParameterPort.TheVariants as pp
-use Rattle.vlog_parts.specs.declared.value.Value.{Value}
-use Rattle.vlog_parts.specs.Values.{argument_of, arguments_of, assignment_of, assignments_of, brace_end_of, case_item_of, case_items_of, connection_of, connections_of, declarations_of, declared_of, declareds_of, delay_of, expr_of, exprs_of, first, instance_of, instances_of, item_of, items_of, left_of, lefts_of, more_parameters_of, more_ports_of, option_expr_of, option_item_of, option_stmt_of, ordered_of, output_names_of, output_ports_of, parameter_of, parameter_port_of, parameter_ports_of, parameter_type_of, parameter_values_of, parameters_of, port_list_of, ports_of, range_of, rest, select_end_of, select_of, stmt_of, stmts_of, vector_of}
+use Rattle.vlog_parts.specs.Values.{argument_of, arguments_of, assignment_of, assignments_of, brace_end_of, case_item_of, case_items_of, connection_of, connections_of, declarations_of, declared_of}
+use Rattle.vlog_parts.specs.Values.{declareds_of, delay_of, expr_of, exprs_of, instance_of, instances_of, item_of, items_of, left_of, lefts_of, more_parameters_of, more_ports_of, option_expr_of}
+use Rattle.vlog_parts.specs.Values.{option_item_of, option_stmt_of, ordered_of, output_names_of, output_ports_of, parameter_of, parameter_port_of, parameter_ports_of, parameter_type_of}
+use Rattle.vlog_parts.specs.Values.{parameter_values_of, parameters_of, port_list_of, ports_of, range_of, select_end_of, select_of, stmt_of, stmts_of, vector_of}
 
 abbrev pub else_block_nest : Option Item → ℕ
 else_block_nest None = 0
@@ -154,11 +146,6 @@ abbrev pub part_deep : Symbol → Value → ℕ
 part_deep (Is c) x = 0
 part_deep (Refused c f) x = 0
 part_deep (Of k) x = nest k x
-
--- the deepest of the parts
-abbrev pub deepest : List Symbol → List Value → ℕ
-deepest [] xs = 0
-deepest (s ∷ ss) xs = max (part_deep s (first xs)) (deepest ss (rest xs))
 
 -- the kinds of chains, and of what stands behind a condition
 unfoldable pub is_chained : Kind → Bool

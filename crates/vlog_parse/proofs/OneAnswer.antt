@@ -1,22 +1,9 @@
 -- Tokens have one answer.
-use Rattle.std.proofs.Common.{◌≡◌, ℕ, zero, suc, ◌+◌, ◌<◌, ◌≤◌, List, [], ◌∷◌, ◌++◌, ◌⊎◌, inl, inr, length, get_or, take, sym, ap, subst, ◌∙◌, append_assoc, arith}
-use Rattle.std.proofs.lemmas.Bool.{cases_lt}
-use Rattle.std.proofs.lemmas.List.{append-nil, get_or-take, length-take-le}
-use Rattle.std.proofs.Math.Seq.{take-length}
-use Rattle.mcy_base.specs.declared.span.Span.{Span}
-use Rattle.vlog_token.specs.declared.token.Token.{Token}
-use Rattle.vlog_expand.specs.declared.error.ParseError.{ParseError}
+use Rattle.vlog_parse.proofs.Common.{◌≡◌, ℕ, zero, suc, ◌+◌, ◌<◌, ◌≤◌, List, [], ◌∷◌, ◌++◌, ◌⊎◌, inl, inr, length, get_or, take, sym, ap, subst, ◌∙◌, append_assoc, arith, cases_lt, append-nil}
+use Rattle.vlog_parse.proofs.Common.{get_or-take, length-take-le, take-length, Span, Token, ParseError, Classed, Stop, Unexpected, Unsupported, Trees, tokens_of, steps_of, AreTreesOf, IsStopAt}
+use Rattle.vlog_parse.proofs.Common.{IsText, steps_for, texts_alike_for, classes, AllShallow, IsTooDeepAt, depths, outermost, walked, AreOneFault, IsFault, IsFirstStop, place, stopped}
 use Rattle.vlog_expand.specs.declared.error.ParseError.TheVariants as e
-use Rattle.vlog_grammar.specs.declared.step.Token.{Token as Classed}
-use Rattle.vlog_grammar.specs.declared.stop.Stop.{Stop}
-use Rattle.vlog_grammar.specs.declared.stop.Stop.TheVariants.{Unexpected, Unsupported}
-use Rattle.vlog_grammar.specs.Trees.{Trees, tokens_of, steps_of}
-use Rattle.vlog_grammar.specs.Reading.{AreTreesOf, IsStopAt, IsText, steps_for}
 use Rattle.vlog_grammar.proofs.Answer.{read_once, refused_first, stops_before, stops_once, take_upto}
-use Rattle.vlog_grammar.proofs.Unique.{texts_alike_for}
-use Rattle.vlog_parse.specs.Classes.{classes}
-use Rattle.vlog_parse.specs.Nesting.{AllShallow, IsTooDeepAt, depths, outermost, walked}
-use Rattle.vlog_parse.specs.Parsing.{AreOneFault, IsFault, IsFirstStop, place, stopped}
 use Rattle.vlog_parse.proofs.Depths.{take-walked, walked_text}
 use Rattle.vlog_parse.proofs.Readings.{shown}
 

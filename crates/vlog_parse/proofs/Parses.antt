@@ -1,22 +1,8 @@
 -- What the parser answers, from its reading.
-use Rattle.std.proofs.Common.{◌≡◌, ℕ, ◌≤◌, List, [], Option, Some, None, inl, inr, refl, sym, subst, ◌∙◌}
-use Rattle.std.specs.List.{All}
-use Rattle.mcy_base.specs.declared.span.Span.{Span}
-use Rattle.vlog_syntax.specs.declared.module.Module.{Module}
-use Rattle.vlog_syntax.specs.Nesting.{module_nest}
-use Rattle.vlog_token.specs.declared.token.Token.{Token}
-use Rattle.vlog_expand.specs.declared.error.ParseError.{ParseError}
+use Rattle.vlog_parse.proofs.Common.{◌≡◌, ℕ, ◌≤◌, List, [], Option, Some, None, inl, inr, refl, sym, subst, ◌∙◌, All, Span, Module, module_nest, Token, ParseError, Step, Stop, IsReading, IsText}
+use Rattle.vlog_parse.proofs.Common.{Trees, steps_of, same_steps, modules, classes, AllShallow, first_deep, outermost, walked, AreMeant, AreParsed, IsFault, place, stopped}
 use Rattle.vlog_expand.specs.declared.error.ParseError.TheVariants as e
-use Rattle.vlog_grammar.specs.declared.step.Step.{Step}
-use Rattle.vlog_grammar.specs.declared.stop.Stop.{Stop}
-use Rattle.vlog_grammar.specs.Reading.{IsReading, IsText}
-use Rattle.vlog_grammar.specs.Trees.{Trees, steps_of}
-use Rattle.vlog_grammar.proofs.Unique.{same_steps}
-use Rattle.vlog_trees.specs.Meaning.{modules}
 use Rattle.vlog_trees.proofs.Runs.{modules_by_steps}
-use Rattle.vlog_parse.specs.Classes.{classes}
-use Rattle.vlog_parse.specs.Nesting.{AllShallow, first_deep, outermost, walked}
-use Rattle.vlog_parse.specs.Parsing.{AreParsed, IsFault, place, stopped}
 use Rattle.vlog_parse.proofs.ModuleNests.{modules_nest}
 use Rattle.vlog_parse.proofs.OneAnswer.{not_shallow_whole, read_alone}
 use Rattle.vlog_parse.proofs.Readings.{deep_at, depths_by_steps, is_read, none_found, shallow_to}
@@ -33,22 +19,20 @@ are_parsed tokens steps ms reading none built =
     let text = reading.text in
     let is_text = reading.trees.is_text in
     record {
-      text = text;
-      trees = reading.trees;
+      are = record { text = text; trees = reading.trees; mean = built text is_text reading.are };
       shallow = subst AllShallow (sym (depths_by_steps text steps is_text reading.are)) (none_found 0 (walked outermost [] steps) (sym none));
-      mean = built text is_text reading.are;
     }
 
 pub are_shallow : (tokens : List Token) (steps : List Step) (ms : List Module) → IsReading (classes tokens) steps None → None ≡ first_deep 0 (walked outermost [] steps) → ((text : Trees) → IsText text → steps_of text ≡ steps → ms ≡ modules tokens text) → All (λ m. module_nest m ≤ 200) ms
 are_shallow tokens steps ms reading none built = modules_nest tokens ms (are_parsed tokens steps ms reading none built)
 
 -- the modules of tokens
-pub one_meaning : (tokens : List Token) (ms ns : List Module) → AreParsed tokens ms → AreParsed tokens ns → ms ≡ ns
+pub one_meaning : (tokens : List Token) (ms ns : List Module) → AreMeant tokens ms → AreMeant tokens ns → ms ≡ ns
 one_meaning tokens ms ns f g =
     f.mean ∙ modules_by_steps tokens f.text g.text f.trees.is_text g.trees.is_text (same_steps f.text g.text f.trees.is_text g.trees.is_text (f.trees.derives ∙ sym g.trees.derives)) ∙ sym g.mean
 
 -- tokens with modules have no fault
 pub no_fault : (tokens : List Token) (end : Span) (ms : List Module) (error : ParseError) → AreParsed tokens ms → IsFault tokens end error → error ≡ e.Memory
-no_fault tokens end ms error parsed (inl a) = absurd (read_alone (classes tokens) parsed.text a.0 parsed.trees a.1)
-no_fault tokens end ms error parsed (inr (inl a)) = absurd (not_shallow_whole (classes tokens) a.0 parsed.text a.1 parsed.trees parsed.shallow)
+no_fault tokens end ms error parsed (inl a) = absurd (read_alone (classes tokens) parsed.are.text a.0 parsed.are.trees a.1)
+no_fault tokens end ms error parsed (inr (inl a)) = absurd (not_shallow_whole (classes tokens) a.0 parsed.are.text a.1 parsed.are.trees parsed.shallow)
 no_fault tokens end ms error parsed (inr (inr a)) = a

@@ -1,20 +1,12 @@
 -- What is known of the depths where a reading ends.
-use Rattle.std.proofs.Common.{◌≡◌, ℕ, suc, ◌+◌, ◌-◌, ◌<◌, ◌≤◌, Bool, List, [], ◌∷◌, ◌++◌, Option, Some, None, ◌⊎◌, inl, inr, length, get_or, take, drop, sym, ap, subst, ◌∙◌, append_assoc, arith}
+use Rattle.vlog_parse.proofs.Common.{◌≡◌, ℕ, suc, ◌+◌, ◌-◌, ◌<◌, ◌≤◌, Bool, List, [], ◌∷◌, ◌++◌, Option, Some, None, ◌⊎◌, inl, inr, length, get_or, take, drop, sym, ap, subst, ◌∙◌, append_assoc}
+use Rattle.vlog_parse.proofs.Common.{arith, cases_lt, lt-ltb, le-ltb, append-nil, get_or_append_left, length-take-le, take-append-le, take_at, take-length, Feature, Step, Classed, Stop, Unexpected}
+use Rattle.vlog_parse.proofs.Common.{Unsupported, Trees, tokens_of, refusals_of, steps_of, AreStepsOf, AreStepsSoFar, IsReading, IsRefusedAt, IsStopAt, IsText, IsUnexpectedAt, none_refused, taken}
+use Rattle.vlog_parse.proofs.Common.{AllShallow, IsShallowBefore, IsTooDeepAt, depths, first_deep, outermost, walked}
 use Rattle.std.specs.Prelude.{if◌then◌else◌}
-use Rattle.std.proofs.lemmas.Bool.{cases_lt, lt-ltb, le-ltb}
-use Rattle.std.proofs.lemmas.List.{append-nil, get_or_append_left, length-take-le, take-append-le, take_at}
-use Rattle.std.proofs.Math.Seq.{take-length}
-use Rattle.vlog_syntax.specs.declared.feature.Feature.{Feature}
-use Rattle.vlog_grammar.specs.declared.step.Step.{Step}
-use Rattle.vlog_grammar.specs.declared.step.Token.{Token as Classed}
-use Rattle.vlog_grammar.specs.declared.stop.Stop.{Stop}
-use Rattle.vlog_grammar.specs.declared.stop.Stop.TheVariants.{Unexpected, Unsupported}
-use Rattle.vlog_grammar.specs.Trees.{Trees, tokens_of, refusals_of, steps_of}
-use Rattle.vlog_grammar.specs.Reading.{AreStepsOf, AreStepsSoFar, IsReading, IsRefusedAt, IsStopAt, IsText, IsUnexpectedAt, none_refused, taken}
 use Rattle.vlog_grammar.proofs.Answer.{take_upto}
 use Rattle.vlog_grammar.proofs.Reach.{none_refused-append}
 use Rattle.vlog_grammar.proofs.Stops.{taken_steps}
-use Rattle.vlog_parse.specs.Nesting.{AllShallow, IsShallowBefore, IsTooDeepAt, depths, first_deep, outermost, walked}
 use Rattle.vlog_parse.proofs.Depths.{length-walked, walked_on, walked_text}
 
 -- a text begins with the tokens before number n, and none of these is refused in it

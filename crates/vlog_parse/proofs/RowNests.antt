@@ -1,37 +1,23 @@
 -- How high rows of trees are, from what the trees mean: at least as high as that nests, up to 201.
-use Rattle.std.proofs.Common.{◌≡◌, ℕ, suc, ◌+◌, ◌-◌, ◌<◌, ◌≤◌, max, min, Bool, true, false, ◌&&◌, if◌then◌else◌, List, [], ◌∷◌, ◌++◌, Option, Some, None, ◌⊎◌, inl, inr, length, take, drop, refl, sym, ap, subst, ◌∙◌, eq-eqb, arith}
-use Rattle.std.proofs.lemmas.Bool.{cases_lt, lt-ltb, le-ltb, ne_eqb}
-use Rattle.std.proofs.lemmas.List.{append-nil, take-append-drop}
+use Rattle.vlog_parse.proofs.Common.{◌≡◌, ℕ, suc, ◌+◌, ◌-◌, ◌<◌, ◌≤◌, max, min, Bool, true, false, ◌&&◌, if◌then◌else◌, List, [], ◌∷◌, ◌++◌, Option, Some, None, ◌⊎◌, inl, inr, length, take, drop}
+use Rattle.vlog_parse.proofs.Common.{refl, sym, ap, subst, ◌∙◌, eq-eqb, arith, cases_lt, lt-ltb, le-ltb, ne_eqb, append-nil, take-append-drop, Span, Token, Expr, expr_nest, Feature, Kind, Rule}
+use Rattle.vlog_parse.proofs.Common.{Classed, Symbol, Is, Refused, Of, production, kind_of, parts_of, Trees, Nil, Leaf, Node, Derives, Fits, tokens_of, Value, first, rest, made_expression, chained}
+use Rattle.vlog_parse.proofs.Common.{extended, operated, linked, leaf, made, means, Row, behind, begun, begun_by, depths_in, ended, ended_by, height_of, is_construct, more, settled}
 use Rattle.std.specs.Prelude.{◌==◌}
-use Rattle.mcy_base.specs.declared.span.Span.{Span}
-use Rattle.vlog_token.specs.declared.token.Token.{Token}
-use Rattle.vlog_syntax.specs.declared.expr.Expr.{Expr}
 use Rattle.vlog_syntax.specs.declared.expr.Expr.TheVariants as ev
 use Rattle.vlog_syntax.specs.declared.operator.BinaryOperator.{BinaryOperator}
 use Rattle.vlog_syntax.specs.declared.operator.BinaryOperator.TheVariants as o
-use Rattle.vlog_syntax.specs.Nesting.{expr_nest}
 use Rattle.vlog_syntax.proofs.NestLemmas.{expr_nest-binary, expr_nest-conditional}
-use Rattle.vlog_syntax.specs.declared.feature.Feature.{Feature}
 use Rattle.vlog_grammar.specs.declared.class.Class.TheVariants as c
-use Rattle.vlog_grammar.specs.declared.rule.Kind.{Kind}
 use Rattle.vlog_grammar.specs.declared.rule.Kind.TheVariants as k
-use Rattle.vlog_grammar.specs.declared.rule.Rule.{Rule}
 use Rattle.vlog_grammar.specs.declared.rule.Rule.TheVariants as r
-use Rattle.vlog_grammar.specs.declared.step.Token.{Token as Classed}
-use Rattle.vlog_grammar.specs.declared.table.Symbol.{Symbol}
-use Rattle.vlog_grammar.specs.declared.table.Symbol.TheVariants.{Is, Refused, Of}
-use Rattle.vlog_grammar.specs.Grammar.{production, kind_of, parts_of}
-use Rattle.vlog_grammar.specs.Trees.{Trees, Nil, Leaf, Node, Derives, Fits, tokens_of}
-use Rattle.vlog_parts.specs.declared.value.Value.{Value}
 use Rattle.vlog_parts.specs.declared.value.Value.TheVariants as v
-use Rattle.vlog_parts.specs.Values.{first, rest, expr_of, chain_of, span_of}
-use Rattle.vlog_trees.specs.Expressions.{made_expression, chained, extended, operated, linked}
-use Rattle.vlog_trees.specs.Meaning.{leaf, made, means}
-use Rattle.vlog_parse.specs.declared.nesting.Row.{Row}
-use Rattle.vlog_parse.specs.Nesting.{behind, begun, begun_by, depths_in, ended, ended_by, height_of, is_construct, more, settled}
+use Rattle.vlog_parts.specs.Values.{expr_of, chain_of, span_of}
 use Rattle.vlog_parse.proofs.Depths.{ended-parts}
 use Rattle.vlog_parse.proofs.Nests.{nest, part_deep, is_chained}
 use Rattle.vlog_parse.proofs.RuleNests.{AllWithin, grown, is_plain, rule_nest}
+use Rattle.vlog_grammar.proofs.Passes.{and_left}
+use Rattle.vlog_expand.proofs.Closing.{and-right}
 
 -- One construct more
 
@@ -135,14 +121,6 @@ all_chained (Is c ∷ ss) = false
 all_chained (Refused c f ∷ ss) = false
 all_chained (Of k ∷ ss) = is_chained k && all_chained ss
 
-left_true : (a b : Bool) → (a && b) ≡ true → a ≡ true
-left_true true b h = refl
-left_true false b h = h
-
-right_true : (a b : Bool) → (a && b) ≡ true → b ≡ true
-right_true true b h = h
-right_true false b h = absurd cc
-
 operated_high : (ss : List Symbol) (xs : List Value) (x : Expr) (a b : ℕ) → all_chained ss ≡ true → min (expr_nest x) 201 ≤ a → Rows ss xs a b → min (expr_nest (operated x xs)) 201 ≤ b
 unfolding operated all_chained
 operated_high [] [] x a b h e w = omega (arith, e, w)
@@ -151,7 +129,7 @@ operated_high (s ∷ ss) [] x a b h e w = absurd w
 operated_high (Is c ∷ ss) (y ∷ ys) x a b h e w = absurd cc
 operated_high (Refused c f ∷ ss) (y ∷ ys) x a b h e w = absurd cc
 operated_high (Of k ∷ ss) (y ∷ ys) x a b h e w =
-    operated_high ss ys (extended x y) w.height b (right_true (is_chained k) (all_chained ss) h) (w.part.extends (left_true (is_chained k) (all_chained ss) h) x e) w.others
+    operated_high ss ys (extended x y) w.height b (and-right (is_chained k) (all_chained ss) h) (w.part.extends (and_left (is_chained k) (all_chained ss) h) x e) w.others
 
 -- An operator with its right operand, and the chain that goes on
 
@@ -176,8 +154,8 @@ linked_high (Refused c g ∷ closer) own (y ∷ ys) place op x left beside a b h
 linked_high (Of k ∷ []) own (y ∷ []) place op x left beside a b h i e f w = absurd w.others
 linked_high (Of k ∷ s ∷ closer) own (y ∷ []) place op x left beside a b h i e f w = absurd w.others
 linked_high (Of k ∷ closer) own (y ∷ z ∷ zs) place op x left beside a b h i e f w =
-    let here = w.part.extends (left_true (is_chained k) (all_chained closer) h) x e in
-    linked_high closer own (z ∷ zs) place op (extended x y) left beside w.height b (right_true (is_chained k) (all_chained closer) h) i here f w.others
+    let here = w.part.extends (and_left (is_chained k) (all_chained closer) h) x e in
+    linked_high closer own (z ∷ zs) place op (extended x y) left beside w.height b (and-right (is_chained k) (all_chained closer) h) i here f w.others
 
 -- the parts of an operator's right operand and those behind it
 abbrev pub front_in : Option ℕ → List Symbol → List Symbol

@@ -1,52 +1,36 @@
 -- How deep what a production means nests, from its parts.
-use Rattle.std.proofs.Common.{◌≡◌, ℕ, ◌+◌, ◌≤◌, max, Bool, true, false, List, [], ◌∷◌, map, Option, Some, None, refl, ap, ◌∙◌, arith}
-use Rattle.mcy_base.specs.declared.span.Span.{Span}
+use Rattle.vlog_parse.proofs.Common.{◌≡◌, ℕ, ◌+◌, ◌≤◌, max, Bool, true, false, List, [], ◌∷◌, map, Option, Some, None, refl, ap, ◌∙◌, arith, Span, Token, Expr, Stmt, ParameterAssignment, Item}
+use Rattle.vlog_parse.proofs.Common.{greatest, expr_nest, part_nest, left_nest, parameter_type_nest, stmt_nest, stmt_nest_step, case_item_nest, case_item_nest_step, among, block_nest, item_nest, Rule}
+use Rattle.vlog_parse.proofs.Common.{Symbol, production, kind_of, parts_of, BraceEnd, Select, SelectEnd, MoreParameters, ParameterPort, Value, first, rest, made_module, joined, made_item, placed}
+use Rattle.vlog_parse.proofs.Common.{made_event, made_passed, made_statement, assigned, made_expression, selected, left_selected, select, braced, made, is_construct}
 use Rattle.mcy_base.specs.declared.word.Word.{Word}
 use Rattle.vlog_token.specs.Numbers.{NumberMeaning, number_of}
-use Rattle.vlog_token.specs.declared.token.Token.{Token}
 use Rattle.vlog_syntax.specs.declared.identifier.Identifier.{Identifier}
-use Rattle.vlog_syntax.specs.declared.expr.Expr.{Expr}
 use Rattle.vlog_syntax.specs.declared.expr.Expr.TheVariants as ev
 use Rattle.vlog_syntax.specs.declared.left_side.LeftSide.{LeftSide}
 use Rattle.vlog_syntax.specs.declared.stmt.CaseItem.{roll-CaseItem}
-use Rattle.vlog_syntax.specs.declared.stmt.Stmt.{Stmt}
 use Rattle.vlog_syntax.specs.declared.stmt.Stmt.TheVariants as sv
 use Rattle.vlog_syntax.specs.declared.stmt.Stmt.TheFolds.{fold-roll-CaseItem}
-use Rattle.vlog_syntax.specs.declared.item.ParameterAssignment.{ParameterAssignment}
 use Rattle.vlog_syntax.specs.declared.item.ParameterType.{ParameterType}
-use Rattle.vlog_syntax.specs.declared.item.Item.{Item}
 use Rattle.vlog_syntax.specs.declared.item.Item.TheVariants as gv
-use Rattle.vlog_syntax.specs.Nesting.{greatest, expr_nest, part_nest, left_nest, parameter_type_nest, stmt_nest, stmt_nest_step, case_item_nest, case_item_nest_step, among, block_nest, item_nest}
-use Rattle.vlog_syntax.proofs.NestLemmas.{block_nest-block, block_nest-if, block_nest-if_else, block_nest-loop, block_nest-null, block_nest-plain, block_nest-region, expr_nest-arguments, expr_nest-bit_select, expr_nest-concatenation, expr_nest-indexed, expr_nest-name, expr_nest-no_arguments, expr_nest-number, expr_nest-parenthesized, expr_nest-part_select, expr_nest-replication, expr_nest-unary, left_nest-bit_select, left_nest-concatenation, left_nest-indexed, left_nest-name, left_nest-part_select, stmt_nest-block, stmt_nest-blocking, stmt_nest-case, stmt_nest-delay, stmt_nest-event, stmt_nest-for, stmt_nest-forever, stmt_nest-if, stmt_nest-if_else, stmt_nest-nonblocking, stmt_nest-null, stmt_nest-repeat, stmt_nest-task, stmt_nest-while}
-use Rattle.vlog_grammar.specs.declared.rule.Rule.{Rule}
+use Rattle.vlog_syntax.proofs.NestLemmas.{block_nest-block, block_nest-if, block_nest-if_else, block_nest-loop, block_nest-null, block_nest-plain, block_nest-region, expr_nest-arguments}
+use Rattle.vlog_syntax.proofs.NestLemmas.{expr_nest-bit_select, expr_nest-concatenation, expr_nest-indexed, expr_nest-name, expr_nest-no_arguments, expr_nest-number, expr_nest-parenthesized}
+use Rattle.vlog_syntax.proofs.NestLemmas.{expr_nest-part_select, expr_nest-replication, expr_nest-unary, left_nest-bit_select, left_nest-concatenation, left_nest-indexed, left_nest-name}
+use Rattle.vlog_syntax.proofs.NestLemmas.{left_nest-part_select, stmt_nest-block, stmt_nest-blocking, stmt_nest-case, stmt_nest-delay, stmt_nest-event, stmt_nest-for, stmt_nest-forever, stmt_nest-if}
+use Rattle.vlog_syntax.proofs.NestLemmas.{stmt_nest-if_else, stmt_nest-nonblocking, stmt_nest-null, stmt_nest-repeat, stmt_nest-task, stmt_nest-while}
 use Rattle.vlog_grammar.specs.declared.rule.Rule.TheVariants as r
-use Rattle.vlog_grammar.specs.declared.table.Symbol.{Symbol}
-use Rattle.vlog_grammar.specs.Grammar.{production, kind_of, parts_of}
-use Rattle.vlog_parts.specs.declared.expression_parts.BraceEnd.{BraceEnd}
 use Rattle.vlog_parts.specs.declared.expression_parts.BraceEnd.TheVariants as be
-use Rattle.vlog_parts.specs.declared.expression_parts.Select.{Select}
 use Rattle.vlog_parts.specs.declared.expression_parts.Select.TheVariants as s
-use Rattle.vlog_parts.specs.declared.expression_parts.SelectEnd.{SelectEnd}
 use Rattle.vlog_parts.specs.declared.expression_parts.SelectEnd.TheVariants as se
-use Rattle.vlog_parts.specs.declared.module_parts.MoreParameters.{MoreParameters}
-use Rattle.vlog_parts.specs.declared.module_parts.ParameterPort.{ParameterPort}
 use Rattle.vlog_parts.specs.declared.module_parts.ParameterPort.TheVariants as pp
 use Rattle.vlog_parts.specs.declared.statement_parts.AssignmentSign.{AssignmentSign}
 use Rattle.vlog_parts.specs.declared.statement_parts.AssignmentSign.TheVariants as sg
-use Rattle.vlog_parts.specs.declared.value.Value.{Value}
 use Rattle.vlog_parts.specs.declared.value.Value.TheVariants as v
 use Rattle.vlog_parts.specs.Leaves.{number, number_by, valued, word}
-use Rattle.vlog_parts.specs.Values.{first, rest, parameter_port_of, more_parameters_of, option_expr_of, expr_of, option_stmt_of, stmt_of, option_item_of, item_of, no_identifier}
-use Rattle.vlog_declarations.specs.Modules.{made_module, joined}
-use Rattle.vlog_items.specs.Items.{made_item, placed}
+use Rattle.vlog_parts.specs.Values.{parameter_port_of, more_parameters_of, option_expr_of, expr_of, option_stmt_of, stmt_of, option_item_of, item_of, no_identifier}
 use Rattle.vlog_declarations.specs.Declarations.{made_declaration}
-use Rattle.vlog_statements.specs.Events.{made_event}
-use Rattle.vlog_trees.specs.Passed.{made_passed}
-use Rattle.vlog_statements.specs.Statements.{made_statement, assigned}
-use Rattle.vlog_trees.specs.Expressions.{made_expression, selected, left_selected, select, braced}
-use Rattle.vlog_trees.specs.Meaning.{made}
-use Rattle.vlog_parse.specs.Nesting.{is_construct}
-use Rattle.vlog_parse.proofs.Nests.{nest, part_deep, else_block_nest, else_stmt_nest, arguments_nest, select_nest, select_end_nest, brace_end_nest, declared_nest, more_parameters_nest, parameter_port_nest}
+use Rattle.vlog_parse.proofs.Nests.{nest, part_deep, else_block_nest, else_stmt_nest, arguments_nest, select_nest, select_end_nest, brace_end_nest, declared_nest, more_parameters_nest}
+use Rattle.vlog_parse.proofs.Nests.{parameter_port_nest}
 
 -- each part nests at most so deep
 abbrev pub AllWithin : List Symbol → List Value → ℕ → Type 0

@@ -136,27 +136,6 @@ depths text = (depths_in outermost text).0
 
 -- The same from the steps of the trees, with the rows around and the productions that stand in them.
 
--- goes on in the rows around, where all parts of a row are read
-abbrev pub closed : Row → List (Row × Rule) → Row × List (Row × Rule)
-closed row [] = (row, [])
-closed row (outer ∷ rows) = if row.parts == 0 then closed (ended outer.0 outer.1 (settled row)) rows else (row, outer ∷ rows)
-
-abbrev pub walked : Row → List (Row × Rule) → List Step → List ℕ
-walked row rows [] = []
-walked row rows (Take t ∷ steps) =
-    let now = settled row in
-    let next = closed (record now { parts = now.parts - 1 }) rows in
-    reached now ∷ walked next.0 next.1 steps
-walked row rows (Begin rule ∷ steps) =
-    let now = settled row in
-    let next = closed (begun now rule) ((now, rule) ∷ rows) in
-    walked next.0 next.1 steps
-
--- the place of the first depth above 200, where the first of these has number n
-abbrev pub first_deep : ℕ → List ℕ → Option ℕ
-first_deep n [] = None
-first_deep n (depth ∷ more) = if nat_lt 200 depth then Some n else first_deep (n + 1) more
-
 abbrev pub AllShallow : List ℕ → Type 0
 AllShallow [] = Unit {0}
 AllShallow (n ∷ ns) = (n ≤ 200) × AllShallow ns
@@ -177,3 +156,26 @@ pub record IsTooDeepAt (tokens : List Classed) (n : ℕ) : Type 0 where
   pub none_is_refused : refusals_of text ≡ none_refused (take (n + 1) tokens) ++ refusals
   pub deep : 200 < slice_index (depths text) n
   pub before : AllShallow (take n (depths text))
+
+-- For proofs alone.
+
+-- goes on in the rows around, where all parts of a row are read
+abbrev pub closed : Row → List (Row × Rule) → Row × List (Row × Rule)
+closed row [] = (row, [])
+closed row (outer ∷ rows) = if row.parts == 0 then closed (ended outer.0 outer.1 (settled row)) rows else (row, outer ∷ rows)
+
+abbrev pub walked : Row → List (Row × Rule) → List Step → List ℕ
+walked row rows [] = []
+walked row rows (Take t ∷ steps) =
+    let now = settled row in
+    let next = closed (record now { parts = now.parts - 1 }) rows in
+    reached now ∷ walked next.0 next.1 steps
+walked row rows (Begin rule ∷ steps) =
+    let now = settled row in
+    let next = closed (begun now rule) ((now, rule) ∷ rows) in
+    walked next.0 next.1 steps
+
+-- the place of the first depth above 200, where the first of these has number n
+abbrev pub first_deep : ℕ → List ℕ → Option ℕ
+first_deep n [] = None
+first_deep n (depth ∷ more) = if nat_lt 200 depth then Some n else first_deep (n + 1) more

@@ -14,12 +14,16 @@ use Rattle.vlog_trees.specs.Meaning.{modules}
 use Rattle.vlog_parse.specs.Classes.{classes}
 use Rattle.vlog_parse.specs.Nesting.{AllShallow, IsShallowBefore, IsTooDeepAt, depths}
 
--- These modules are what the trees mean that derive exactly these tokens, and no more than 200 constructs are nested.
-pub record AreParsed (tokens : List Token) (ms : List Module) : Type 0 where
+-- These modules are what the trees mean that derive exactly these tokens.
+pub record AreMeant (tokens : List Token) (ms : List Module) : Type 0 where
   pub text : Trees
   pub trees : AreTreesOf text (classes tokens)
-  pub shallow : AllShallow (depths text)
   pub mean : ms ≡ modules tokens text
+
+-- So they are, and no more than 200 constructs are nested.
+pub record AreParsed (tokens : List Token) (ms : List Module) : Type 0 where
+  pub are : AreMeant tokens ms
+  pub shallow : AllShallow (depths are.text)
 
 -- Reading stops for this reason, and nothing before it is too deep.
 pub record IsFirstStop (tokens : List Classed) (why : Stop) : Type 0 where

@@ -73,10 +73,6 @@ symbols n =
 abbrev pub functions : List (List ℕ × Class)
 functions = (codes "$signed", c.UnaryFunction) ∷ (codes "$unsigned", c.UnaryFunction) ∷ (codes "$clog2", c.UnaryFunction) ∷ []
 
--- an entry of a table in the code
-abbrev pub plain : Bor (List ℕ) × Class → List ℕ × Class
-plain e = (e.0.now, e.1)
-
 -- the class that a table has for a text
 abbrev pub lookup : List (List ℕ × Class) → List ℕ → Option Class
 lookup [] text = None
@@ -97,3 +93,9 @@ symbol_class text = or_else (lookup (symbols (length text)) text) c.Other
 -- the name of another system task or function
 abbrev pub system_class : List ℕ → Class
 system_class text = or_else (lookup functions text) c.System
+
+-- For proofs alone.
+
+-- an entry of a table in the code
+abbrev pub plain : Bor (List ℕ) × Class → List ℕ × Class
+plain e = (e.0.now, e.1)

@@ -13,5 +13,5 @@ mod nesting;
 mod parser;
 mod words;
 
-pub use parser::{one_answer, parse};
+pub use parser::{each_part_is_there, one_answer, parse};
 pub use vlog_expand::ParseError;

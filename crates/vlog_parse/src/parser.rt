@@ -6,7 +6,11 @@ ghost use Rattle.vlog_expand.specs.declared.error.ParseError.TheVariants as e;
 ghost use Rattle.vlog_syntax.specs.declared.module.Module.{Module};
 ghost use Rattle.vlog_syntax.specs.Nesting.{module_nest};
 ghost use Rattle.vlog_token.specs.declared.token.Token.{Token};
-ghost use Rattle.vlog_parse.specs.Parsing.{AreOneFault, AreParsed, IsFault, place, stopped};
+ghost use Rattle.vlog_grammar.specs.Reading.{AreTreesOf};
+ghost use Rattle.vlog_grammar.specs.Trees.{Trees};
+ghost use Rattle.vlog_trees.specs.OfKinds.{AreOfKinds};
+ghost use Rattle.vlog_parse.specs.Classes.{classes};
+ghost use Rattle.vlog_parse.specs.Parsing.{AreMeant, AreOneFault, AreParsed, IsFault, place, stopped};
 
 use crate::classes::classes;
 use crate::nesting::too_deep;
@@ -64,7 +68,13 @@ fn stopped(tokens: &[Token<'_>], end: Span, why: Stop) -> ParseError
 
 /// Tokens have one answer: one list of modules or one fault, and never both. So each fault comes just where `parse` says.
 pub fn one_answer()
-    ensures modules { (tokens : List Token) (ms ns : List Module) → AreParsed tokens ms → AreParsed tokens ns → ms ≡ ns }
+    ensures modules { (tokens : List Token) (ms ns : List Module) → AreMeant tokens ms → AreMeant tokens ns → ms ≡ ns }
     ensures either { (tokens : List Token) (end : Span) (ms : List Module) (error : ParseError) → AreParsed tokens ms → IsFault tokens end error → error ≡ e.Memory }
     ensures faults { (tokens : List Token) (end : Span) (x y : ParseError) → IsFault tokens end x → IsFault tokens end y → AreOneFault x y }
+{}
+
+/// Each part of a text is of the sort of its kind, and each of its tokens stands among these. So where a production's line
+/// speaks of a part, that part is there.
+pub fn each_part_is_there()
+    ensures { (tokens : List Token) (text : Trees) → AreTreesOf text (classes tokens) → AreOfKinds tokens text }
 {}

@@ -1,21 +1,10 @@
 -- The sorts of the parts of a production, one by one.
-use Rattle.std.proofs.Common.{◌≡◌, ℕ, zero, suc, Bool, true, false, ◌&&◌, List, [], ◌∷◌, refl}
+use Rattle.std.proofs.Common.{◌≡◌, ℕ, zero, suc, Bool, true, List, [], ◌∷◌, refl}
 use Rattle.vlog_grammar.specs.declared.table.Symbol.{Symbol}
 use Rattle.vlog_parts.specs.declared.value.Value.{Value}
-use Rattle.vlog_parts.specs.Values.{first, rest}
+use Rattle.vlog_parts.specs.Numbered.{first, rest}
 use Rattle.vlog_parts.specs.Kinds.{is_of, are_of}
-
-pub left_of : (a b : Bool) → (a && b) ≡ true → a ≡ true
-left_of true b h = refl
-left_of false b h = h
-
-pub right_of : (a b : Bool) → (a && b) ≡ true → b ≡ true
-right_of true b h = h
-right_of false b h = absurd cc
-
-pub both : (a b : Bool) → a ≡ true → b ≡ true → (a && b) ≡ true
-both true b h e = e
-both false b h e = h
+use Rattle.vlog_grammar.proofs.Passes.{and_left, and_right}
 
 -- a part is of the sort of the symbol with this number
 abbrev pub fits : ℕ → List Symbol → Value → Bool
@@ -30,5 +19,5 @@ behind (suc n) ms = behind n (rest ms)
 pub later : (n : ℕ) (ss : List Symbol) (ms : List Value) → are_of ss ms ≡ true → fits n ss (first (behind n ms)) ≡ true
 later zero [] ms h = refl
 later (suc n) [] ms h = refl
-later zero (s ∷ ss) ms h = left_of (is_of s (first ms)) (are_of ss (rest ms)) h
-later (suc n) (s ∷ ss) ms h = later n ss (rest ms) (right_of (is_of s (first ms)) (are_of ss (rest ms)) h)
+later zero (s ∷ ss) ms h = and_left (is_of s (first ms)) (are_of ss (rest ms)) h
+later (suc n) (s ∷ ss) ms h = later n ss (rest ms) (and_right (is_of s (first ms)) (are_of ss (rest ms)) h)

@@ -7,7 +7,8 @@ use Rattle.vlog_grammar.specs.declared.table.Symbol.{Symbol}
 use Rattle.vlog_grammar.specs.declared.table.Symbol.TheVariants.{Is, Refused, Of}
 use Rattle.vlog_grammar.specs.Grammar.{parts_of}
 use Rattle.vlog_parts.specs.declared.value.Value.{Value}
-use Rattle.vlog_parts.specs.Values.{first, rest, is_argument, is_arguments, is_assignment, is_assignments, is_brace_end, is_branches, is_case_item, is_case_items, is_case_keyword, is_chain, is_connection, is_connections, is_declarations, is_declared, is_declareds, is_delay, is_event, is_event_control, is_events, is_expr, is_exprs, is_identifier, is_identifiers, is_instance, is_instances, is_item, is_items, is_label, is_left, is_lefts, is_modules, is_more_parameters, is_more_ports, is_option_expr, is_option_item, is_option_stmt, is_ordered, is_output_names, is_output_ports, is_parameter, is_parameter_port, is_parameter_ports, is_parameter_type, is_parameter_values, is_parameters, is_port_list, is_ports, is_range, is_select, is_select_end, is_sign, is_stmt, is_stmts, is_vector}
+use Rattle.vlog_parts.specs.Sorts.{is_argument, is_arguments, is_assignment, is_assignments, is_brace_end, is_branches, is_case_item, is_case_items, is_case_keyword, is_chain, is_connection, is_connections, is_declarations, is_declared, is_declareds, is_delay, is_event, is_event_control, is_events, is_expr, is_exprs, is_identifier, is_identifiers, is_instance, is_instances, is_item, is_items, is_label, is_left, is_lefts, is_modules, is_more_parameters, is_more_ports, is_option_expr, is_option_item, is_option_stmt, is_ordered, is_output_names, is_output_ports, is_parameter, is_parameter_port, is_parameter_ports, is_parameter_type, is_parameter_values, is_parameters, is_port_list, is_ports, is_range, is_select, is_select_end, is_sign, is_stmt, is_stmts, is_vector}
+use Rattle.vlog_parts.specs.Numbered.{first, rest}
 
 unfoldable pub is_of_kind : Kind → Value → Bool
 is_of_kind k.SourceText x = is_modules x

@@ -1,4 +1,5 @@
+pub mod Numbered
 pub mod Values
-pub mod Leaves
 pub mod Sorts
+pub mod Leaves
 pub mod Kinds

@@ -1,206 +1,250 @@
--- What a part means, by its sort.
-use Rattle.std.specs.Prelude.{List, Option}
-use Rattle.vlog_syntax.specs.declared.stmt.Argument.{Argument as TheArgument}
-use Rattle.vlog_syntax.specs.declared.stmt.Assignment.{Assignment as TheAssignment}
-use Rattle.vlog_parts.specs.declared.statement_parts.AssignmentSign.{AssignmentSign as TheAssignmentSign}
-use Rattle.vlog_parts.specs.declared.expression_parts.BraceEnd.{BraceEnd as TheBraceEnd}
-use Rattle.vlog_parts.specs.declared.expression_parts.Branches.{Branches as TheBranches}
-use Rattle.vlog_syntax.specs.declared.stmt.CaseItem.{CaseItem as TheCaseItem}
-use Rattle.vlog_parts.specs.declared.statement_parts.CaseKeyword.{CaseKeyword as TheCaseKeyword}
-use Rattle.vlog_syntax.specs.declared.item.Connections.{Connections as TheConnections}
-use Rattle.vlog_syntax.specs.declared.item.DeclaredName.{DeclaredName as TheDeclaredName}
-use Rattle.vlog_syntax.specs.declared.item.Delay.{Delay as TheDelay}
-use Rattle.vlog_syntax.specs.declared.stmt.EventControl.{EventControl as TheEventControl}
-use Rattle.vlog_syntax.specs.declared.stmt.EventExpression.{EventExpression as TheEventExpression}
-use Rattle.vlog_syntax.specs.declared.expr.Expr.{Expr as TheExpr}
-use Rattle.vlog_syntax.specs.declared.identifier.Identifier.{Identifier as TheIdentifier}
-use Rattle.vlog_syntax.specs.declared.item.Instance.{Instance as TheInstance}
-use Rattle.vlog_syntax.specs.declared.item.Item.{Item as TheItem}
-use Rattle.vlog_syntax.specs.declared.left_side.LeftSide.{LeftSide as TheLeftSide}
-use Rattle.vlog_parts.specs.declared.expression_parts.Link.{Link as TheLink}
-use Rattle.vlog_syntax.specs.declared.module.Module.{Module as TheModule}
-use Rattle.vlog_parts.specs.declared.module_parts.MoreParameters.{MoreParameters as TheMoreParameters}
-use Rattle.vlog_parts.specs.declared.module_parts.MorePorts.{MorePorts as TheMorePorts}
-use Rattle.vlog_syntax.specs.declared.item.NamedConnection.{NamedConnection as TheNamedConnection}
-use Rattle.vlog_parts.specs.declared.declaration_parts.OutputNames.{OutputNames as TheOutputNames}
-use Rattle.vlog_parts.specs.declared.module_parts.OutputPorts.{OutputPorts as TheOutputPorts}
-use Rattle.vlog_syntax.specs.declared.item.ParameterAssignment.{ParameterAssignment as TheParameterAssignment}
-use Rattle.vlog_syntax.specs.declared.item.ParameterDeclaration.{ParameterDeclaration as TheParameterDeclaration}
-use Rattle.vlog_parts.specs.declared.module_parts.ParameterPort.{ParameterPort as TheParameterPort}
-use Rattle.vlog_syntax.specs.declared.item.ParameterType.{ParameterType as TheParameterType}
-use Rattle.vlog_syntax.specs.declared.item.ParameterValues.{ParameterValues as TheParameterValues}
-use Rattle.vlog_syntax.specs.declared.item.PortDeclaration.{PortDeclaration as ThePortDeclaration}
-use Rattle.vlog_syntax.specs.declared.item.Ports.{Ports as ThePorts}
-use Rattle.vlog_syntax.specs.declared.item.Range.{Range as TheRange}
-use Rattle.vlog_parts.specs.declared.expression_parts.Select.{Select as TheSelect}
-use Rattle.vlog_parts.specs.declared.expression_parts.SelectEnd.{SelectEnd as TheSelectEnd}
-use Rattle.vlog_syntax.specs.declared.stmt.Stmt.{Stmt as TheStmt}
-use Rattle.vlog_syntax.specs.declared.item.VectorType.{VectorType as TheVectorType}
-use Rattle.vlog_token.specs.declared.token.Token.{Token as TheToken}
-use Rattle.vlog_parts.specs.declared.value.ExpressionPart.TheVariants as gexpression
-use Rattle.vlog_parts.specs.declared.value.StatementPart.TheVariants as gstatement
-use Rattle.vlog_parts.specs.declared.value.EventPart.TheVariants as gevent
-use Rattle.vlog_parts.specs.declared.value.DeclarationPart.TheVariants as gdeclaration
-use Rattle.vlog_parts.specs.declared.value.ParameterPart.TheVariants as gparameter
-use Rattle.vlog_parts.specs.declared.value.HeadPart.TheVariants as ghead
-use Rattle.vlog_parts.specs.declared.value.ItemPart.TheVariants as gitem
-use Rattle.vlog_parts.specs.declared.value.InstancePart.TheVariants as ginstance
-use Rattle.vlog_parts.specs.declared.value.ModulePart.TheVariants as gmodule
+-- Whether a part is of a sort. A part that is left out is of the sorts of lists and of options.
+use Rattle.std.specs.Prelude.{Bool, true, false}
 use Rattle.vlog_parts.specs.declared.value.Value.{Value}
 use Rattle.vlog_parts.specs.declared.value.Value.TheVariants as v
 
-abbrev pub Nothing : Value
-Nothing = v.Nothing
+abbrev pub is_identifier : Value → Bool
+is_identifier (v.Identifier x) = true
+is_identifier _ = false
 
-abbrev pub Token : TheToken → Value
-Token x = v.Token x
+abbrev pub is_label : Value → Bool
+is_label v.Nothing = true
+is_label (v.Identifier x) = true
+is_label _ = false
 
-abbrev pub Identifier : TheIdentifier → Value
-Identifier x = v.Identifier x
+abbrev pub is_expr : Value → Bool
+is_expr (v.Expr x) = true
+is_expr _ = false
 
-abbrev pub Expr : TheExpr → Value
-Expr x = v.Expr x
+abbrev pub is_option_expr : Value → Bool
+is_option_expr v.Nothing = true
+is_option_expr (v.Expr x) = true
+is_option_expr _ = false
 
-abbrev pub Exprs : List TheExpr → Value
-Exprs x = v.Exprs x
+abbrev pub is_exprs : Value → Bool
+is_exprs v.Nothing = true
+is_exprs (v.Exprs x) = true
+is_exprs _ = false
 
-abbrev pub Chain : List TheLink → Value
-Chain x = v.Chain x
+abbrev pub is_chain : Value → Bool
+is_chain v.Nothing = true
+is_chain (v.Chain x) = true
+is_chain _ = false
 
-abbrev pub Select : TheSelect → Value
-Select x = v.ExpressionPart (gexpression.Select x)
+abbrev pub is_select : Value → Bool
+is_select v.Nothing = true
+is_select (v.Select x) = true
+is_select _ = false
 
-abbrev pub SelectEnd : TheSelectEnd → Value
-SelectEnd x = v.ExpressionPart (gexpression.SelectEnd x)
+abbrev pub is_select_end : Value → Bool
+is_select_end (v.SelectEnd x) = true
+is_select_end _ = false
 
-abbrev pub BraceEnd : TheBraceEnd → Value
-BraceEnd x = v.ExpressionPart (gexpression.BraceEnd x)
+abbrev pub is_brace_end : Value → Bool
+is_brace_end (v.BraceEnd x) = true
+is_brace_end _ = false
 
-abbrev pub LeftSide : TheLeftSide → Value
-LeftSide x = v.ExpressionPart (gexpression.LeftSide x)
+abbrev pub is_left : Value → Bool
+is_left (v.LeftSide x) = true
+is_left _ = false
 
-abbrev pub LeftSides : List TheLeftSide → Value
-LeftSides x = v.ExpressionPart (gexpression.LeftSides x)
+abbrev pub is_lefts : Value → Bool
+is_lefts v.Nothing = true
+is_lefts (v.LeftSides x) = true
+is_lefts _ = false
 
-abbrev pub Branches : TheBranches → Value
-Branches x = v.Branches x
+abbrev pub is_branches : Value → Bool
+is_branches v.Nothing = true
+is_branches (v.Branches x) = true
+is_branches _ = false
 
-abbrev pub Stmt : TheStmt → Value
-Stmt x = v.Stmt x
+abbrev pub is_stmt : Value → Bool
+is_stmt (v.Stmt x) = true
+is_stmt _ = false
 
-abbrev pub Stmts : List TheStmt → Value
-Stmts x = v.StatementPart (gstatement.Stmts x)
+abbrev pub is_option_stmt : Value → Bool
+is_option_stmt v.Nothing = true
+is_option_stmt (v.Stmt x) = true
+is_option_stmt _ = false
 
-abbrev pub Sign : TheAssignmentSign → Value
-Sign x = v.StatementPart (gstatement.Sign x)
+abbrev pub is_stmts : Value → Bool
+is_stmts v.Nothing = true
+is_stmts (v.Stmts x) = true
+is_stmts _ = false
 
-abbrev pub CaseKeyword : TheCaseKeyword → Value
-CaseKeyword x = v.StatementPart (gstatement.CaseKeyword x)
+abbrev pub is_sign : Value → Bool
+is_sign (v.Sign x) = true
+is_sign _ = false
 
-abbrev pub CaseItem : TheCaseItem → Value
-CaseItem x = v.StatementPart (gstatement.CaseItem x)
+abbrev pub is_case_keyword : Value → Bool
+is_case_keyword (v.CaseKeyword x) = true
+is_case_keyword _ = false
 
-abbrev pub CaseItems : List TheCaseItem → Value
-CaseItems x = v.StatementPart (gstatement.CaseItems x)
+abbrev pub is_case_item : Value → Bool
+is_case_item (v.CaseItem x) = true
+is_case_item _ = false
 
-abbrev pub Event : TheEventExpression → Value
-Event x = v.EventPart (gevent.Event x)
+abbrev pub is_case_items : Value → Bool
+is_case_items v.Nothing = true
+is_case_items (v.CaseItems x) = true
+is_case_items _ = false
 
-abbrev pub Events : List TheEventExpression → Value
-Events x = v.EventPart (gevent.Events x)
+abbrev pub is_event : Value → Bool
+is_event (v.Event x) = true
+is_event _ = false
 
-abbrev pub EventControl : TheEventControl → Value
-EventControl x = v.EventPart (gevent.EventControl x)
+abbrev pub is_events : Value → Bool
+is_events v.Nothing = true
+is_events (v.Events x) = true
+is_events _ = false
 
-abbrev pub Argument : TheArgument → Value
-Argument x = v.EventPart (gevent.Argument x)
+abbrev pub is_event_control : Value → Bool
+is_event_control (v.EventControl x) = true
+is_event_control _ = false
 
-abbrev pub Arguments : List TheArgument → Value
-Arguments x = v.EventPart (gevent.Arguments x)
+abbrev pub is_argument : Value → Bool
+is_argument (v.Argument x) = true
+is_argument _ = false
 
-abbrev pub Vector : TheVectorType → Value
-Vector x = v.DeclarationPart (gdeclaration.Vector x)
+abbrev pub is_arguments : Value → Bool
+is_arguments v.Nothing = true
+is_arguments (v.Arguments x) = true
+is_arguments _ = false
 
-abbrev pub DeclaredName : TheDeclaredName → Value
-DeclaredName x = v.DeclarationPart (gdeclaration.DeclaredName x)
+abbrev pub is_vector : Value → Bool
+is_vector (v.Vector x) = true
+is_vector _ = false
 
-abbrev pub DeclaredNames : List TheDeclaredName → Value
-DeclaredNames x = v.DeclarationPart (gdeclaration.DeclaredNames x)
+abbrev pub is_declared : Value → Bool
+is_declared (v.DeclaredName x) = true
+is_declared _ = false
 
-abbrev pub ParameterType : TheParameterType → Value
-ParameterType x = v.ParameterPart (gparameter.ParameterType x)
+abbrev pub is_declareds : Value → Bool
+is_declareds v.Nothing = true
+is_declareds (v.DeclaredNames x) = true
+is_declareds _ = false
 
-abbrev pub Parameter : TheParameterAssignment → Value
-Parameter x = v.ParameterPart (gparameter.Parameter x)
+abbrev pub is_parameter_type : Value → Bool
+is_parameter_type (v.ParameterType x) = true
+is_parameter_type _ = false
 
-abbrev pub Parameters : List TheParameterAssignment → Value
-Parameters x = v.ParameterPart (gparameter.Parameters x)
+abbrev pub is_parameter : Value → Bool
+is_parameter (v.Parameter x) = true
+is_parameter _ = false
 
-abbrev pub OutputNames : TheOutputNames → Value
-OutputNames x = v.DeclarationPart (gdeclaration.OutputNames x)
+abbrev pub is_parameters : Value → Bool
+is_parameters v.Nothing = true
+is_parameters (v.Parameters x) = true
+is_parameters _ = false
 
-abbrev pub Range : TheRange → Value
-Range x = v.DeclarationPart (gdeclaration.Range x)
+abbrev pub is_output_names : Value → Bool
+is_output_names (v.OutputNames x) = true
+is_output_names _ = false
 
-abbrev pub Assignment : TheAssignment → Value
-Assignment x = v.ItemPart (gitem.Assignment x)
+abbrev pub is_range : Value → Bool
+is_range v.Nothing = true
+is_range (v.Range x) = true
+is_range _ = false
 
-abbrev pub Assignments : List TheAssignment → Value
-Assignments x = v.ItemPart (gitem.Assignments x)
+abbrev pub is_assignment : Value → Bool
+is_assignment (v.Assignment x) = true
+is_assignment _ = false
 
-abbrev pub ParameterValues : TheParameterValues → Value
-ParameterValues x = v.InstancePart (ginstance.ParameterValues x)
+abbrev pub is_assignments : Value → Bool
+is_assignments v.Nothing = true
+is_assignments (v.Assignments x) = true
+is_assignments _ = false
 
-abbrev pub Connection : TheNamedConnection → Value
-Connection x = v.InstancePart (ginstance.Connection x)
+abbrev pub is_parameter_values : Value → Bool
+is_parameter_values v.Nothing = true
+is_parameter_values (v.ParameterValues x) = true
+is_parameter_values _ = false
 
-abbrev pub NamedConnections : List TheNamedConnection → Value
-NamedConnections x = v.InstancePart (ginstance.NamedConnections x)
+abbrev pub is_connection : Value → Bool
+is_connection (v.Connection x) = true
+is_connection _ = false
 
-abbrev pub OrderedConnections : List (Option TheExpr) → Value
-OrderedConnections x = v.InstancePart (ginstance.OrderedConnections x)
+abbrev pub is_connections : Value → Bool
+is_connections v.Nothing = true
+is_connections (v.NamedConnections x) = true
+is_connections _ = false
 
-abbrev pub Connections : TheConnections → Value
-Connections x = v.InstancePart (ginstance.Connections x)
+abbrev pub is_ordered : Value → Bool
+is_ordered v.Nothing = true
+is_ordered (v.OrderedConnections x) = true
+is_ordered _ = false
 
-abbrev pub Instance : TheInstance → Value
-Instance x = v.InstancePart (ginstance.Instance x)
+abbrev pub is_ports : Value → Bool
+is_ports (v.Connections x) = true
+is_ports _ = false
 
-abbrev pub Instances : List TheInstance → Value
-Instances x = v.InstancePart (ginstance.Instances x)
+abbrev pub is_instance : Value → Bool
+is_instance (v.Instance x) = true
+is_instance _ = false
 
-abbrev pub Item : TheItem → Value
-Item x = v.Item x
+abbrev pub is_instances : Value → Bool
+is_instances v.Nothing = true
+is_instances (v.Instances x) = true
+is_instances _ = false
 
-abbrev pub Items : List TheItem → Value
-Items x = v.ItemPart (gitem.Items x)
+abbrev pub is_item : Value → Bool
+is_item (v.Item x) = true
+is_item _ = false
 
-abbrev pub Delay : TheDelay → Value
-Delay x = v.ItemPart (gitem.Delay x)
+abbrev pub is_option_item : Value → Bool
+is_option_item v.Nothing = true
+is_option_item (v.Item x) = true
+is_option_item _ = false
 
-abbrev pub Modules : List TheModule → Value
-Modules x = v.ModulePart (gmodule.Modules x)
+abbrev pub is_items : Value → Bool
+is_items v.Nothing = true
+is_items (v.Items x) = true
+is_items _ = false
 
-abbrev pub ParameterDeclarations : List TheParameterDeclaration → Value
-ParameterDeclarations x = v.HeadPart (ghead.ParameterDeclarations x)
+abbrev pub is_delay : Value → Bool
+is_delay v.Nothing = true
+is_delay (v.Delay x) = true
+is_delay _ = false
 
-abbrev pub ParameterPort : TheParameterPort → Value
-ParameterPort x = v.HeadPart (ghead.ParameterPort x)
+abbrev pub is_modules : Value → Bool
+is_modules v.Nothing = true
+is_modules (v.Modules x) = true
+is_modules _ = false
 
-abbrev pub MoreParameters : TheMoreParameters → Value
-MoreParameters x = v.HeadPart (ghead.MoreParameters x)
+abbrev pub is_parameter_ports : Value → Bool
+is_parameter_ports v.Nothing = true
+is_parameter_ports (v.ParameterDeclarations x) = true
+is_parameter_ports _ = false
 
-abbrev pub Ports : ThePorts → Value
-Ports x = v.ModulePart (gmodule.Ports x)
+abbrev pub is_parameter_port : Value → Bool
+is_parameter_port (v.ParameterPort x) = true
+is_parameter_port _ = false
 
-abbrev pub PortDeclarations : List ThePortDeclaration → Value
-PortDeclarations x = v.ModulePart (gmodule.PortDeclarations x)
+abbrev pub is_more_parameters : Value → Bool
+is_more_parameters v.Nothing = true
+is_more_parameters (v.MoreParameters x) = true
+is_more_parameters _ = false
 
-abbrev pub MorePorts : TheMorePorts → Value
-MorePorts x = v.ModulePart (gmodule.MorePorts x)
+abbrev pub is_port_list : Value → Bool
+is_port_list v.Nothing = true
+is_port_list (v.Ports x) = true
+is_port_list _ = false
 
-abbrev pub OutputPorts : TheOutputPorts → Value
-OutputPorts x = v.ModulePart (gmodule.OutputPorts x)
+abbrev pub is_declarations : Value → Bool
+is_declarations v.Nothing = true
+is_declarations (v.PortDeclarations x) = true
+is_declarations _ = false
 
-abbrev pub Identifiers : List TheIdentifier → Value
-Identifiers x = v.ModulePart (gmodule.Identifiers x)
+abbrev pub is_more_ports : Value → Bool
+is_more_ports v.Nothing = true
+is_more_ports (v.MorePorts x) = true
+is_more_ports _ = false
+
+abbrev pub is_output_ports : Value → Bool
+is_output_ports (v.OutputPorts x) = true
+is_output_ports _ = false
+
+abbrev pub is_identifiers : Value → Bool
+is_identifiers v.Nothing = true
+is_identifiers (v.Identifiers x) = true
+is_identifiers _ = false

@@ -1,9 +1,11 @@
 //! Parts of declarations.
 ghost use Rattle.std.specs.Prelude.{◌≡◌, true};
-ghost use Rattle.vlog_parts.specs.Values.{first, rest, declaration_part_of, parameter_part_of, vector_of, declared_of, declareds_of, parameter_type_of, parameter_of, parameters_of, output_names_of, range_of, is_vector, is_declared, is_parameter_type, is_parameter, is_output_names};
+ghost use Rattle.vlog_parts.specs.Sorts.{is_vector, is_declared, is_parameter_type, is_parameter, is_output_names};
+ghost use Rattle.vlog_parts.specs.Numbered.{first, rest};
+ghost use Rattle.vlog_parts.specs.Values.{vector_of, declared_of, declareds_of, parameter_type_of, parameter_of, parameters_of, output_names_of, range_of};
 
 use crate::stack::Stack;
-use crate::value::{DeclarationPart, ParameterPart, Value};
+use crate::value::Value;
 use std::alloc::Global;
 use vlog_syntax::{DataType, DeclaredName, ParameterAssignment, ParameterType, Range, VectorType};
 
@@ -15,36 +17,6 @@ pub struct OutputNames {
 }
 
 impl Stack<Value<'_>> {
-    /// The next part, where it is of this group.
-    #[tactic(auto, using(crate::proofs::Sorts::not_declaration_part))]
-    fn declaration_part(&mut self) -> Option<DeclarationPart>
-        ensures value { result ≡ declaration_part_of (first self.old) }
-        ensures rest { self.new ≡ rest self.old }
-    {
-        match self.next() {
-            Value::DeclarationPart(part) => Some(part.into_inner()),
-            other => {
-                drop(other);
-                None
-            }
-        }
-    }
-
-    /// The next part, where it is of this group.
-    #[tactic(auto, using(crate::proofs::Sorts::not_parameter_part))]
-    fn parameter_part(&mut self) -> Option<ParameterPart>
-        ensures value { result ≡ parameter_part_of (first self.old) }
-        ensures rest { self.new ≡ rest self.old }
-    {
-        match self.next() {
-            Value::ParameterPart(part) => Some(part.into_inner()),
-            other => {
-                drop(other);
-                None
-            }
-        }
-    }
-
     /// The next part, the type of a vector.
     #[tactic(auto, using(crate::proofs::Sorts::only_vector))]
     pub fn vector(&mut self) -> VectorType
@@ -52,8 +24,8 @@ impl Stack<Value<'_>> {
         ensures value { result ≡ vector_of (first self.old) }
         ensures rest { self.new ≡ rest self.old }
     {
-        match self.declaration_part() {
-            Some(DeclarationPart::Vector(vector)) => vector,
+        match self.next() {
+            Value::Vector(vector) => vector,
             _ => unreachable!(),
         }
     }
@@ -65,8 +37,8 @@ impl Stack<Value<'_>> {
         ensures value { result ≡ declared_of (first self.old) }
         ensures rest { self.new ≡ rest self.old }
     {
-        match self.declaration_part() {
-            Some(DeclarationPart::DeclaredName(declared)) => declared,
+        match self.next() {
+            Value::DeclaredName(declared) => declared,
             _ => unreachable!(),
         }
     }
@@ -77,8 +49,8 @@ impl Stack<Value<'_>> {
         ensures value { result ≡ declareds_of (first self.old) }
         ensures rest { self.new ≡ rest self.old }
     {
-        match self.declaration_part() {
-            Some(DeclarationPart::DeclaredNames(declareds)) => declareds,
+        match self.next() {
+            Value::DeclaredNames(declareds) => declareds,
             other => {
                 drop(other);
                 Stack::new(alloc)
@@ -93,8 +65,8 @@ impl Stack<Value<'_>> {
         ensures value { result ≡ parameter_type_of (first self.old) }
         ensures rest { self.new ≡ rest self.old }
     {
-        match self.parameter_part() {
-            Some(ParameterPart::ParameterType(parameter_type)) => parameter_type,
+        match self.next() {
+            Value::ParameterType(parameter_type) => parameter_type,
             _ => unreachable!(),
         }
     }
@@ -106,8 +78,8 @@ impl Stack<Value<'_>> {
         ensures value { result ≡ parameter_of (first self.old) }
         ensures rest { self.new ≡ rest self.old }
     {
-        match self.parameter_part() {
-            Some(ParameterPart::Parameter(parameter)) => parameter,
+        match self.next() {
+            Value::Parameter(parameter) => parameter,
             _ => unreachable!(),
         }
     }
@@ -118,8 +90,8 @@ impl Stack<Value<'_>> {
         ensures value { result ≡ parameters_of (first self.old) }
         ensures rest { self.new ≡ rest self.old }
     {
-        match self.parameter_part() {
-            Some(ParameterPart::Parameters(parameters)) => parameters,
+        match self.next() {
+            Value::Parameters(parameters) => parameters,
             other => {
                 drop(other);
                 Stack::new(alloc)
@@ -134,8 +106,8 @@ impl Stack<Value<'_>> {
         ensures value { result ≡ output_names_of (first self.old) }
         ensures rest { self.new ≡ rest self.old }
     {
-        match self.declaration_part() {
-            Some(DeclarationPart::OutputNames(output_names)) => output_names,
+        match self.next() {
+            Value::OutputNames(output_names) => output_names.into_inner(),
             _ => unreachable!(),
         }
     }
@@ -146,8 +118,8 @@ impl Stack<Value<'_>> {
         ensures value { result ≡ range_of (first self.old) }
         ensures rest { self.new ≡ rest self.old }
     {
-        match self.declaration_part() {
-            Some(DeclarationPart::Range(range)) => Some(range),
+        match self.next() {
+            Value::Range(range) => Some(range),
             other => {
                 drop(other);
                 None

@@ -1,9 +1,11 @@
 //! Parts of expressions and of left sides.
 ghost use Rattle.std.specs.Prelude.{◌≡◌, true};
-ghost use Rattle.vlog_parts.specs.Values.{first, rest, expression_part_of, expr_of, exprs_of, chain_of, select_of, select_end_of, brace_end_of, left_of, lefts_of, is_expr, is_select_end, is_brace_end, is_left, option_expr_of};
+ghost use Rattle.vlog_parts.specs.Sorts.{is_expr, is_select_end, is_brace_end, is_left};
+ghost use Rattle.vlog_parts.specs.Numbered.{first, rest};
+ghost use Rattle.vlog_parts.specs.Values.{expr_of, exprs_of, chain_of, select_of, select_end_of, brace_end_of, left_of, lefts_of, option_expr_of};
 
 use crate::stack::Stack;
-use crate::value::{ExpressionPart, Value};
+use crate::value::Value;
 use mcy_base::Span;
 use std::alloc::Global;
 use vlog_syntax::{BinaryOperator, Boxed, Expr, LeftSide};
@@ -48,21 +50,6 @@ pub enum BraceEnd {
 }
 
 impl Stack<Value<'_>> {
-    /// The next part, where it is of this group.
-    #[tactic(auto, using(crate::proofs::Sorts::not_expression_part))]
-    fn expression_part(&mut self) -> Option<ExpressionPart>
-        ensures value { result ≡ expression_part_of (first self.old) }
-        ensures rest { self.new ≡ rest self.old }
-    {
-        match self.next() {
-            Value::ExpressionPart(part) => Some(part.into_inner()),
-            other => {
-                drop(other);
-                None
-            }
-        }
-    }
-
     /// The next part, an expression.
     #[tactic(auto, using(crate::proofs::Sorts::only_expr))]
     pub fn expr(&mut self) -> Boxed<Expr>
@@ -112,8 +99,8 @@ impl Stack<Value<'_>> {
         ensures value { result ≡ select_of (first self.old) }
         ensures rest { self.new ≡ rest self.old }
     {
-        match self.expression_part() {
-            Some(ExpressionPart::Select(select)) => Some(select),
+        match self.next() {
+            Value::Select(select) => Some(select),
             other => {
                 drop(other);
                 None
@@ -128,8 +115,8 @@ impl Stack<Value<'_>> {
         ensures value { result ≡ select_end_of (first self.old) }
         ensures rest { self.new ≡ rest self.old }
     {
-        match self.expression_part() {
-            Some(ExpressionPart::SelectEnd(select_end)) => select_end,
+        match self.next() {
+            Value::SelectEnd(select_end) => select_end,
             _ => unreachable!(),
         }
     }
@@ -141,8 +128,8 @@ impl Stack<Value<'_>> {
         ensures value { result ≡ brace_end_of (first self.old) }
         ensures rest { self.new ≡ rest self.old }
     {
-        match self.expression_part() {
-            Some(ExpressionPart::BraceEnd(brace_end)) => brace_end,
+        match self.next() {
+            Value::BraceEnd(brace_end) => brace_end,
             _ => unreachable!(),
         }
     }
@@ -154,8 +141,8 @@ impl Stack<Value<'_>> {
         ensures value { result ≡ left_of (first self.old) }
         ensures rest { self.new ≡ rest self.old }
     {
-        match self.expression_part() {
-            Some(ExpressionPart::LeftSide(left)) => left,
+        match self.next() {
+            Value::LeftSide(left) => left.into_inner(),
             _ => unreachable!(),
         }
     }
@@ -166,8 +153,8 @@ impl Stack<Value<'_>> {
         ensures value { result ≡ lefts_of (first self.old) }
         ensures rest { self.new ≡ rest self.old }
     {
-        match self.expression_part() {
-            Some(ExpressionPart::LeftSides(lefts)) => lefts,
+        match self.next() {
+            Value::LeftSides(lefts) => lefts,
             other => {
                 drop(other);
                 Stack::new(alloc)

@@ -1,9 +1,11 @@
 //! Parts of items.
 ghost use Rattle.std.specs.Prelude.{◌≡◌, true};
-ghost use Rattle.vlog_parts.specs.Values.{first, rest, instance_part_of, item_part_of, assignment_of, assignments_of, parameter_values_of, connection_of, connections_of, ordered_of, ports_of, instance_of, instances_of, item_of, items_of, delay_of, is_assignment, is_connection, is_ports, is_instance, is_item, option_item_of};
+ghost use Rattle.vlog_parts.specs.Sorts.{is_assignment, is_connection, is_ports, is_instance, is_item};
+ghost use Rattle.vlog_parts.specs.Numbered.{first, rest};
+ghost use Rattle.vlog_parts.specs.Values.{assignment_of, assignments_of, parameter_values_of, connection_of, connections_of, ordered_of, ports_of, instance_of, instances_of, item_of, items_of, delay_of, option_item_of};
 
 use crate::stack::Stack;
-use crate::value::{InstancePart, ItemPart, Value};
+use crate::value::Value;
 use std::alloc::Global;
 use vlog_syntax::{
     Assignment, Boxed, Connections, Delay, Expr, Instance, Item, Listed, NamedConnection,
@@ -11,36 +13,6 @@ use vlog_syntax::{
 };
 
 impl Stack<Value<'_>> {
-    /// The next part, where it is of this group.
-    #[tactic(auto, using(crate::proofs::Sorts::not_instance_part))]
-    fn instance_part(&mut self) -> Option<InstancePart>
-        ensures value { result ≡ instance_part_of (first self.old) }
-        ensures rest { self.new ≡ rest self.old }
-    {
-        match self.next() {
-            Value::InstancePart(part) => Some(part.into_inner()),
-            other => {
-                drop(other);
-                None
-            }
-        }
-    }
-
-    /// The next part, where it is of this group.
-    #[tactic(auto, using(crate::proofs::Sorts::not_item_part))]
-    fn item_part(&mut self) -> Option<ItemPart>
-        ensures value { result ≡ item_part_of (first self.old) }
-        ensures rest { self.new ≡ rest self.old }
-    {
-        match self.next() {
-            Value::ItemPart(part) => Some(part.into_inner()),
-            other => {
-                drop(other);
-                None
-            }
-        }
-    }
-
     /// The next part, an assignment.
     #[tactic(auto, using(crate::proofs::Sorts::only_assignment))]
     pub fn assignment(&mut self) -> Assignment
@@ -48,8 +20,8 @@ impl Stack<Value<'_>> {
         ensures value { result ≡ assignment_of (first self.old) }
         ensures rest { self.new ≡ rest self.old }
     {
-        match self.item_part() {
-            Some(ItemPart::Assignment(assignment)) => assignment,
+        match self.next() {
+            Value::Assignment(assignment) => assignment.into_inner(),
             _ => unreachable!(),
         }
     }
@@ -60,8 +32,8 @@ impl Stack<Value<'_>> {
         ensures value { result ≡ assignments_of (first self.old) }
         ensures rest { self.new ≡ rest self.old }
     {
-        match self.item_part() {
-            Some(ItemPart::Assignments(assignments)) => assignments,
+        match self.next() {
+            Value::Assignments(assignments) => assignments,
             other => {
                 drop(other);
                 Stack::new(alloc)
@@ -75,8 +47,8 @@ impl Stack<Value<'_>> {
         ensures value { result ≡ parameter_values_of (first self.old) }
         ensures rest { self.new ≡ rest self.old }
     {
-        match self.instance_part() {
-            Some(InstancePart::ParameterValues(parameter_values)) => parameter_values,
+        match self.next() {
+            Value::ParameterValues(parameter_values) => parameter_values,
             other => {
                 drop(other);
                 ParameterValues::Ordered(Listed::from_vec(Vec::new(alloc)))
@@ -91,8 +63,8 @@ impl Stack<Value<'_>> {
         ensures value { result ≡ connection_of (first self.old) }
         ensures rest { self.new ≡ rest self.old }
     {
-        match self.instance_part() {
-            Some(InstancePart::Connection(connection)) => connection,
+        match self.next() {
+            Value::Connection(connection) => connection,
             _ => unreachable!(),
         }
     }
@@ -103,8 +75,8 @@ impl Stack<Value<'_>> {
         ensures value { result ≡ connections_of (first self.old) }
         ensures rest { self.new ≡ rest self.old }
     {
-        match self.instance_part() {
-            Some(InstancePart::NamedConnections(connections)) => connections,
+        match self.next() {
+            Value::NamedConnections(connections) => connections,
             other => {
                 drop(other);
                 Stack::new(alloc)
@@ -118,8 +90,8 @@ impl Stack<Value<'_>> {
         ensures value { result ≡ ordered_of (first self.old) }
         ensures rest { self.new ≡ rest self.old }
     {
-        match self.instance_part() {
-            Some(InstancePart::OrderedConnections(ordered)) => ordered,
+        match self.next() {
+            Value::OrderedConnections(ordered) => ordered,
             other => {
                 drop(other);
                 Stack::new(alloc)
@@ -134,8 +106,8 @@ impl Stack<Value<'_>> {
         ensures value { result ≡ ports_of (first self.old) }
         ensures rest { self.new ≡ rest self.old }
     {
-        match self.instance_part() {
-            Some(InstancePart::Connections(ports)) => ports,
+        match self.next() {
+            Value::Connections(ports) => ports,
             _ => unreachable!(),
         }
     }
@@ -147,8 +119,8 @@ impl Stack<Value<'_>> {
         ensures value { result ≡ instance_of (first self.old) }
         ensures rest { self.new ≡ rest self.old }
     {
-        match self.instance_part() {
-            Some(InstancePart::Instance(instance)) => instance,
+        match self.next() {
+            Value::Instance(instance) => instance.into_inner(),
             _ => unreachable!(),
         }
     }
@@ -159,8 +131,8 @@ impl Stack<Value<'_>> {
         ensures value { result ≡ instances_of (first self.old) }
         ensures rest { self.new ≡ rest self.old }
     {
-        match self.instance_part() {
-            Some(InstancePart::Instances(instances)) => instances,
+        match self.next() {
+            Value::Instances(instances) => instances,
             other => {
                 drop(other);
                 Stack::new(alloc)
@@ -187,8 +159,8 @@ impl Stack<Value<'_>> {
         ensures value { result ≡ items_of (first self.old) }
         ensures rest { self.new ≡ rest self.old }
     {
-        match self.item_part() {
-            Some(ItemPart::Items(items)) => items,
+        match self.next() {
+            Value::Items(items) => items,
             other => {
                 drop(other);
                 Stack::new(alloc)
@@ -202,8 +174,8 @@ impl Stack<Value<'_>> {
         ensures value { result ≡ delay_of (first self.old) }
         ensures rest { self.new ≡ rest self.old }
     {
-        match self.item_part() {
-            Some(ItemPart::Delay(delay)) => Some(delay),
+        match self.next() {
+            Value::Delay(delay) => Some(delay),
             other => {
                 drop(other);
                 None

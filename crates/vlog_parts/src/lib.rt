@@ -20,13 +20,10 @@ pub use expression_parts::{BraceEnd, Branches, Link, Select, SelectEnd};
 pub use leaves::{identifier, number, string};
 pub use module_parts::{MoreParameters, MorePorts, OutputPorts, ParameterPort};
 pub use node::{
-    boxed_branches, boxed_declaration_part, boxed_event_part, boxed_expr, boxed_head_part,
-    boxed_instance_part, boxed_item, boxed_item_part, boxed_module_part, boxed_modules,
-    boxed_parameter_part, boxed_part, boxed_plain, boxed_statement_part, boxed_stmt,
+    boxed_assignment, boxed_branches, boxed_expr, boxed_instance, boxed_item, boxed_left,
+    boxed_output_names, boxed_output_ports, boxed_parameter_port, boxed_plain, boxed_stmt,
+    some_modules,
 };
 pub use stack::Stack;
 pub use statement_parts::{AssignmentSign, CaseKeyword};
-pub use value::{
-    DeclarationPart, EventPart, ExpressionPart, HeadPart, InstancePart, ItemPart, ModulePart,
-    NO_SPAN, ParameterPart, Parts, StatementPart, Value,
-};
+pub use value::{NO_SPAN, Parts, Value};

@@ -1,6 +1,8 @@
 //! Lists of parts that have one item or more.
 ghost use Rattle.std.specs.Prelude.{◌≡◌, ◌∷◌, true, IfOk};
-ghost use Rattle.vlog_parts.specs.Values.{first, second, argument_of, arguments_of, assignment_of, assignments_of, case_item_of, case_items_of, connection_of, connections_of, declared_of, declareds_of, event_of, events_of, expr_of, exprs_of, identifier_of, identifiers_of, instance_of, instances_of, is_argument, is_assignment, is_case_item, is_connection, is_declared, is_event, is_expr, is_identifier, is_instance, is_item, is_left, is_parameter, is_stmt, item_of, items_of, left_of, lefts_of, parameter_of, parameters_of, stmt_of, stmts_of};
+ghost use Rattle.vlog_parts.specs.Sorts.{is_argument, is_assignment, is_case_item, is_connection, is_declared, is_event, is_expr, is_identifier, is_instance, is_item, is_left, is_parameter, is_stmt};
+ghost use Rattle.vlog_parts.specs.Numbered.{first, second};
+ghost use Rattle.vlog_parts.specs.Values.{argument_of, arguments_of, assignment_of, assignments_of, case_item_of, case_items_of, connection_of, connections_of, declared_of, declareds_of, event_of, events_of, expr_of, exprs_of, identifier_of, identifiers_of, instance_of, instances_of, item_of, items_of, left_of, lefts_of, parameter_of, parameters_of, stmt_of, stmts_of};
 
 use crate::declaration_parts::OutputNames;
 use crate::stack::Stack;

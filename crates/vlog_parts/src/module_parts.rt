@@ -1,9 +1,11 @@
 //! Parts of the heads of modules.
 ghost use Rattle.std.specs.Prelude.{◌≡◌, true};
-ghost use Rattle.vlog_parts.specs.Values.{first, rest, head_part_of, module_part_of, modules_of, parameter_ports_of, parameter_port_of, more_parameters_of, port_list_of, declarations_of, more_ports_of, output_ports_of, identifiers_of, is_parameter_port, is_output_ports};
+ghost use Rattle.vlog_parts.specs.Sorts.{is_parameter_port, is_output_ports};
+ghost use Rattle.vlog_parts.specs.Numbered.{first, rest};
+ghost use Rattle.vlog_parts.specs.Values.{modules_of, parameter_ports_of, parameter_port_of, more_parameters_of, port_list_of, declarations_of, more_ports_of, output_ports_of, identifiers_of};
 
 use crate::stack::Stack;
-use crate::value::{HeadPart, ModulePart, Value};
+use crate::value::Value;
 use mcy_base::Span;
 use std::alloc::Global;
 use vlog_syntax::{
@@ -43,44 +45,14 @@ pub struct OutputPorts {
 }
 
 impl Stack<Value<'_>> {
-    /// The next part, where it is of this group.
-    #[tactic(auto, using(crate::proofs::Sorts::not_head_part))]
-    fn head_part(&mut self) -> Option<HeadPart>
-        ensures value { result ≡ head_part_of (first self.old) }
-        ensures rest { self.new ≡ rest self.old }
-    {
-        match self.next() {
-            Value::HeadPart(part) => Some(part.into_inner()),
-            other => {
-                drop(other);
-                None
-            }
-        }
-    }
-
-    /// The next part, where it is of this group.
-    #[tactic(auto, using(crate::proofs::Sorts::not_module_part))]
-    fn module_part(&mut self) -> Option<ModulePart>
-        ensures value { result ≡ module_part_of (first self.old) }
-        ensures rest { self.new ≡ rest self.old }
-    {
-        match self.next() {
-            Value::ModulePart(part) => Some(part.into_inner()),
-            other => {
-                drop(other);
-                None
-            }
-        }
-    }
-
     /// The next part, modules.
     #[tactic(auto, using(crate::proofs::Sorts::not_modules))]
     pub fn modules(&mut self, alloc: Global) -> Stack<Module>
         ensures value { result ≡ modules_of (first self.old) }
         ensures rest { self.new ≡ rest self.old }
     {
-        match self.module_part() {
-            Some(ModulePart::Modules(modules)) => modules,
+        match self.next() {
+            Value::Modules(modules) => modules,
             other => {
                 drop(other);
                 Stack::new(alloc)
@@ -94,8 +66,8 @@ impl Stack<Value<'_>> {
         ensures value { result ≡ parameter_ports_of (first self.old) }
         ensures rest { self.new ≡ rest self.old }
     {
-        match self.head_part() {
-            Some(HeadPart::ParameterDeclarations(parameter_ports)) => parameter_ports,
+        match self.next() {
+            Value::ParameterDeclarations(parameter_ports) => parameter_ports,
             other => {
                 drop(other);
                 Stack::new(alloc)
@@ -110,8 +82,8 @@ impl Stack<Value<'_>> {
         ensures value { result ≡ parameter_port_of (first self.old) }
         ensures rest { self.new ≡ rest self.old }
     {
-        match self.head_part() {
-            Some(HeadPart::ParameterPort(parameter_port)) => parameter_port,
+        match self.next() {
+            Value::ParameterPort(parameter_port) => parameter_port.into_inner(),
             _ => unreachable!(),
         }
     }
@@ -122,8 +94,8 @@ impl Stack<Value<'_>> {
         ensures value { result ≡ more_parameters_of (first self.old) }
         ensures rest { self.new ≡ rest self.old }
     {
-        match self.head_part() {
-            Some(HeadPart::MoreParameters(more_parameters)) => more_parameters,
+        match self.next() {
+            Value::MoreParameters(more_parameters) => more_parameters,
             other => {
                 drop(other);
                 MoreParameters {
@@ -140,8 +112,8 @@ impl Stack<Value<'_>> {
         ensures value { result ≡ port_list_of (first self.old) }
         ensures rest { self.new ≡ rest self.old }
     {
-        match self.module_part() {
-            Some(ModulePart::Ports(port_list)) => port_list,
+        match self.next() {
+            Value::Ports(port_list) => port_list,
             other => {
                 drop(other);
                 Ports::Names(Listed::from_vec(Vec::new(alloc)))
@@ -155,8 +127,8 @@ impl Stack<Value<'_>> {
         ensures value { result ≡ declarations_of (first self.old) }
         ensures rest { self.new ≡ rest self.old }
     {
-        match self.module_part() {
-            Some(ModulePart::PortDeclarations(declarations)) => declarations,
+        match self.next() {
+            Value::PortDeclarations(declarations) => declarations,
             other => {
                 drop(other);
                 Stack::new(alloc)
@@ -170,8 +142,8 @@ impl Stack<Value<'_>> {
         ensures value { result ≡ more_ports_of (first self.old) }
         ensures rest { self.new ≡ rest self.old }
     {
-        match self.module_part() {
-            Some(ModulePart::MorePorts(more_ports)) => more_ports,
+        match self.next() {
+            Value::MorePorts(more_ports) => more_ports,
             other => {
                 drop(other);
                 MorePorts {
@@ -189,8 +161,8 @@ impl Stack<Value<'_>> {
         ensures value { result ≡ output_ports_of (first self.old) }
         ensures rest { self.new ≡ rest self.old }
     {
-        match self.module_part() {
-            Some(ModulePart::OutputPorts(output_ports)) => output_ports,
+        match self.next() {
+            Value::OutputPorts(output_ports) => output_ports.into_inner(),
             _ => unreachable!(),
         }
     }
@@ -201,8 +173,8 @@ impl Stack<Value<'_>> {
         ensures value { result ≡ identifiers_of (first self.old) }
         ensures rest { self.new ≡ rest self.old }
     {
-        match self.module_part() {
-            Some(ModulePart::Identifiers(identifiers)) => identifiers,
+        match self.next() {
+            Value::Identifiers(identifiers) => identifiers,
             other => {
                 drop(other);
                 Stack::new(alloc)

@@ -1,17 +1,15 @@
 //! What a production means, in a box where it is large.
 ghost use Rattle.std.specs.Prelude.{◌≡◌, ◌∷◌, IfOk};
 ghost use Rattle.vlog_syntax.specs.declared.item.Item.TheVariants as i;
-ghost use Rattle.vlog_parts.specs.declared.value.ModulePart.TheVariants as m;
 ghost use Rattle.vlog_parts.specs.declared.value.Value.TheVariants as v;
 
+use crate::declaration_parts::OutputNames;
 use crate::expression_parts::Branches;
+use crate::module_parts::{OutputPorts, ParameterPort};
 use crate::stack::Stack;
-use crate::value::{
-    DeclarationPart, EventPart, ExpressionPart, HeadPart, InstancePart, ItemPart, ModulePart,
-    ParameterPart, StatementPart, Value,
-};
+use crate::value::Value;
 use std::alloc::{AllocError, Global};
-use vlog_syntax::{Boxed, Expr, Item, Module, PlainItem, Stmt};
+use vlog_syntax::{Assignment, Boxed, Expr, Instance, Item, LeftSide, Module, PlainItem, Stmt};
 
 /// An expression in a box.
 #[inline(never)]
@@ -27,14 +25,6 @@ pub fn boxed_branches<'a>(alloc: Global, branches: Branches) -> Result<Value<'a>
     ensures { IfOk result (λ x. x ≡ v.Branches branches) }
 {
     Ok(Value::Branches(Boxed::new(alloc, branches)?))
-}
-
-/// A part of an expression or a left side in a box.
-#[inline(never)]
-pub fn boxed_part<'a>(alloc: Global, part: ExpressionPart) -> Result<Value<'a>, AllocError>
-    ensures { IfOk result (λ x. x ≡ v.ExpressionPart part) }
-{
-    Ok(Value::ExpressionPart(Boxed::new(alloc, part)?))
 }
 
 /// A statement in a box.
@@ -61,81 +51,57 @@ pub fn boxed_plain<'a>(alloc: Global, item: PlainItem) -> Result<Value<'a>, Allo
     boxed_item(alloc, Item::Plain(item))
 }
 
-/// A part of a statement in a box.
+/// A left side in a box.
 #[inline(never)]
-pub fn boxed_statement_part<'a>(alloc: Global, part: StatementPart) -> Result<Value<'a>, AllocError>
-    ensures { IfOk result (λ x. x ≡ v.StatementPart part) }
+pub fn boxed_left<'a>(alloc: Global, left: LeftSide) -> Result<Value<'a>, AllocError>
+    ensures { IfOk result (λ x. x ≡ v.LeftSide left) }
 {
-    Ok(Value::StatementPart(Boxed::new(alloc, part)?))
+    Ok(Value::LeftSide(Boxed::new(alloc, left)?))
 }
 
-/// A part of an event control or of a call of a task in a box.
+/// An assignment in a box.
 #[inline(never)]
-pub fn boxed_event_part<'a>(alloc: Global, part: EventPart) -> Result<Value<'a>, AllocError>
-    ensures { IfOk result (λ x. x ≡ v.EventPart part) }
+pub fn boxed_assignment<'a>(alloc: Global, assignment: Assignment) -> Result<Value<'a>, AllocError>
+    ensures { IfOk result (λ x. x ≡ v.Assignment assignment) }
 {
-    Ok(Value::EventPart(Boxed::new(alloc, part)?))
+    Ok(Value::Assignment(Boxed::new(alloc, assignment)?))
 }
 
-/// A part of a declaration in a box.
+/// An instance in a box.
 #[inline(never)]
-pub fn boxed_declaration_part<'a>(
-    alloc: Global,
-    part: DeclarationPart,
-) -> Result<Value<'a>, AllocError>
-    ensures { IfOk result (λ x. x ≡ v.DeclarationPart part) }
+pub fn boxed_instance<'a>(alloc: Global, instance: Instance) -> Result<Value<'a>, AllocError>
+    ensures { IfOk result (λ x. x ≡ v.Instance instance) }
 {
-    Ok(Value::DeclarationPart(Boxed::new(alloc, part)?))
+    Ok(Value::Instance(Boxed::new(alloc, instance)?))
 }
 
-/// A part of a declaration of parameters in a box.
+/// Outputs of one type in a box.
 #[inline(never)]
-pub fn boxed_parameter_part<'a>(alloc: Global, part: ParameterPart) -> Result<Value<'a>, AllocError>
-    ensures { IfOk result (λ x. x ≡ v.ParameterPart part) }
+pub fn boxed_output_names<'a>(alloc: Global, names: OutputNames) -> Result<Value<'a>, AllocError>
+    ensures { IfOk result (λ x. x ≡ v.OutputNames names) }
 {
-    Ok(Value::ParameterPart(Boxed::new(alloc, part)?))
+    Ok(Value::OutputNames(Boxed::new(alloc, names)?))
 }
 
-/// A part of the parameters of a module in a box.
+/// Outputs of one type, and the declarations behind them, in a box.
 #[inline(never)]
-pub fn boxed_head_part<'a>(alloc: Global, part: HeadPart) -> Result<Value<'a>, AllocError>
-    ensures { IfOk result (λ x. x ≡ v.HeadPart part) }
+pub fn boxed_output_ports<'a>(alloc: Global, ports: OutputPorts) -> Result<Value<'a>, AllocError>
+    ensures { IfOk result (λ x. x ≡ v.OutputPorts ports) }
 {
-    Ok(Value::HeadPart(Boxed::new(alloc, part)?))
+    Ok(Value::OutputPorts(Boxed::new(alloc, ports)?))
 }
 
-/// A part of an item in a box.
+/// A parameter in the head of a module in a box.
 #[inline(never)]
-pub fn boxed_item_part<'a>(alloc: Global, part: ItemPart) -> Result<Value<'a>, AllocError>
-    ensures { IfOk result (λ x. x ≡ v.ItemPart part) }
+pub fn boxed_parameter_port<'a>(alloc: Global, port: ParameterPort) -> Result<Value<'a>, AllocError>
+    ensures { IfOk result (λ x. x ≡ v.ParameterPort port) }
 {
-    Ok(Value::ItemPart(Boxed::new(alloc, part)?))
+    Ok(Value::ParameterPort(Boxed::new(alloc, port)?))
 }
 
-/// A part of an instantiation in a box.
-#[inline(never)]
-pub fn boxed_instance_part<'a>(alloc: Global, part: InstancePart) -> Result<Value<'a>, AllocError>
-    ensures { IfOk result (λ x. x ≡ v.InstancePart part) }
+/// A module, and those behind it.
+pub fn some_modules<'a>(first: Module, behind: Stack<Module>) -> Result<Value<'a>, AllocError>
+    ensures { IfOk result (λ x. x ≡ v.Modules (first ∷ behind)) }
 {
-    Ok(Value::InstancePart(Boxed::new(alloc, part)?))
-}
-
-/// A part of a module in a box.
-#[inline(never)]
-pub fn boxed_module_part<'a>(alloc: Global, part: ModulePart) -> Result<Value<'a>, AllocError>
-    ensures { IfOk result (λ x. x ≡ v.ModulePart part) }
-{
-    Ok(Value::ModulePart(Boxed::new(alloc, part)?))
-}
-
-/// A module and those behind it, in a box.
-#[inline(never)]
-pub fn boxed_modules<'a>(
-    alloc: Global,
-    first: Module,
-    behind: Stack<Module>,
-) -> Result<Value<'a>, AllocError>
-    ensures { IfOk result (λ x. x ≡ v.ModulePart (m.Modules (first ∷ behind))) }
-{
-    boxed_module_part(alloc, ModulePart::Modules(behind.with(first)?))
+    Ok(Value::Modules(behind.with(first)?))
 }

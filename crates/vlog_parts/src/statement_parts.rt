@@ -1,9 +1,11 @@
 //! Parts of statements.
 ghost use Rattle.std.specs.Prelude.{◌≡◌, true};
-ghost use Rattle.vlog_parts.specs.Values.{first, rest, event_part_of, statement_part_of, stmt_of, stmts_of, sign_of, case_keyword_of, case_item_of, case_items_of, event_of, events_of, event_control_of, argument_of, arguments_of, is_stmt, is_sign, is_case_keyword, is_case_item, is_event, is_event_control, is_argument, option_stmt_of};
+ghost use Rattle.vlog_parts.specs.Sorts.{is_stmt, is_sign, is_case_keyword, is_case_item, is_event, is_event_control, is_argument};
+ghost use Rattle.vlog_parts.specs.Numbered.{first, rest};
+ghost use Rattle.vlog_parts.specs.Values.{stmt_of, stmts_of, sign_of, case_keyword_of, case_item_of, case_items_of, event_of, events_of, event_control_of, argument_of, arguments_of, option_stmt_of};
 
 use crate::stack::Stack;
-use crate::value::{EventPart, StatementPart, Value};
+use crate::value::Value;
 use mcy_base::Span;
 use std::alloc::Global;
 use vlog_syntax::{Argument, Boxed, CaseItem, CaseKind, EventControl, EventExpression, Stmt};
@@ -23,36 +25,6 @@ pub struct CaseKeyword {
 }
 
 impl Stack<Value<'_>> {
-    /// The next part, where it is of this group.
-    #[tactic(auto, using(crate::proofs::Sorts::not_event_part))]
-    fn event_part(&mut self) -> Option<EventPart>
-        ensures value { result ≡ event_part_of (first self.old) }
-        ensures rest { self.new ≡ rest self.old }
-    {
-        match self.next() {
-            Value::EventPart(part) => Some(part.into_inner()),
-            other => {
-                drop(other);
-                None
-            }
-        }
-    }
-
-    /// The next part, where it is of this group.
-    #[tactic(auto, using(crate::proofs::Sorts::not_statement_part))]
-    fn statement_part(&mut self) -> Option<StatementPart>
-        ensures value { result ≡ statement_part_of (first self.old) }
-        ensures rest { self.new ≡ rest self.old }
-    {
-        match self.next() {
-            Value::StatementPart(part) => Some(part.into_inner()),
-            other => {
-                drop(other);
-                None
-            }
-        }
-    }
-
     /// The next part, a statement.
     #[tactic(auto, using(crate::proofs::Sorts::only_stmt))]
     pub fn stmt(&mut self) -> Boxed<Stmt>
@@ -72,8 +44,8 @@ impl Stack<Value<'_>> {
         ensures value { result ≡ stmts_of (first self.old) }
         ensures rest { self.new ≡ rest self.old }
     {
-        match self.statement_part() {
-            Some(StatementPart::Stmts(stmts)) => stmts,
+        match self.next() {
+            Value::Stmts(stmts) => stmts,
             other => {
                 drop(other);
                 Stack::new(alloc)
@@ -88,8 +60,8 @@ impl Stack<Value<'_>> {
         ensures value { result ≡ sign_of (first self.old) }
         ensures rest { self.new ≡ rest self.old }
     {
-        match self.statement_part() {
-            Some(StatementPart::Sign(sign)) => sign,
+        match self.next() {
+            Value::Sign(sign) => sign,
             _ => unreachable!(),
         }
     }
@@ -101,8 +73,8 @@ impl Stack<Value<'_>> {
         ensures value { result ≡ case_keyword_of (first self.old) }
         ensures rest { self.new ≡ rest self.old }
     {
-        match self.statement_part() {
-            Some(StatementPart::CaseKeyword(case_keyword)) => case_keyword,
+        match self.next() {
+            Value::CaseKeyword(case_keyword) => case_keyword,
             _ => unreachable!(),
         }
     }
@@ -114,8 +86,8 @@ impl Stack<Value<'_>> {
         ensures value { result ≡ case_item_of (first self.old) }
         ensures rest { self.new ≡ rest self.old }
     {
-        match self.statement_part() {
-            Some(StatementPart::CaseItem(case_item)) => case_item,
+        match self.next() {
+            Value::CaseItem(case_item) => case_item,
             _ => unreachable!(),
         }
     }
@@ -126,8 +98,8 @@ impl Stack<Value<'_>> {
         ensures value { result ≡ case_items_of (first self.old) }
         ensures rest { self.new ≡ rest self.old }
     {
-        match self.statement_part() {
-            Some(StatementPart::CaseItems(case_items)) => case_items,
+        match self.next() {
+            Value::CaseItems(case_items) => case_items,
             other => {
                 drop(other);
                 Stack::new(alloc)
@@ -142,8 +114,8 @@ impl Stack<Value<'_>> {
         ensures value { result ≡ event_of (first self.old) }
         ensures rest { self.new ≡ rest self.old }
     {
-        match self.event_part() {
-            Some(EventPart::Event(event)) => event,
+        match self.next() {
+            Value::Event(event) => event,
             _ => unreachable!(),
         }
     }
@@ -154,8 +126,8 @@ impl Stack<Value<'_>> {
         ensures value { result ≡ events_of (first self.old) }
         ensures rest { self.new ≡ rest self.old }
     {
-        match self.event_part() {
-            Some(EventPart::Events(events)) => events,
+        match self.next() {
+            Value::Events(events) => events,
             other => {
                 drop(other);
                 Stack::new(alloc)
@@ -170,8 +142,8 @@ impl Stack<Value<'_>> {
         ensures value { result ≡ event_control_of (first self.old) }
         ensures rest { self.new ≡ rest self.old }
     {
-        match self.event_part() {
-            Some(EventPart::EventControl(event_control)) => event_control,
+        match self.next() {
+            Value::EventControl(event_control) => event_control,
             _ => unreachable!(),
         }
     }
@@ -183,8 +155,8 @@ impl Stack<Value<'_>> {
         ensures value { result ≡ argument_of (first self.old) }
         ensures rest { self.new ≡ rest self.old }
     {
-        match self.event_part() {
-            Some(EventPart::Argument(argument)) => argument,
+        match self.next() {
+            Value::Argument(argument) => argument,
             _ => unreachable!(),
         }
     }
@@ -195,8 +167,8 @@ impl Stack<Value<'_>> {
         ensures value { result ≡ arguments_of (first self.old) }
         ensures rest { self.new ≡ rest self.old }
     {
-        match self.event_part() {
-            Some(EventPart::Arguments(arguments)) => arguments,
+        match self.next() {
+            Value::Arguments(arguments) => arguments,
             other => {
                 drop(other);
                 Stack::new(alloc)

@@ -3,7 +3,9 @@
 //! The parts of a production stand on a stack, the first part on top. What is asked of a part is of its sort: by the table of
 //! productions each part is.
 ghost use Rattle.std.specs.Prelude.{◌≡◌, true};
-ghost use Rattle.vlog_parts.specs.Values.{first, rest, second, span_of, token_of, identifier_of, is_identifier, label_of};
+ghost use Rattle.vlog_parts.specs.Sorts.{is_identifier};
+ghost use Rattle.vlog_parts.specs.Numbered.{first, rest, second};
+ghost use Rattle.vlog_parts.specs.Values.{span_of, token_of, identifier_of, label_of};
 
 use crate::declaration_parts::OutputNames;
 use crate::expression_parts::{BraceEnd, Branches, Link, Select, SelectEnd};
@@ -19,115 +21,67 @@ use vlog_syntax::{
 };
 use vlog_token::Token;
 
-/// What a part means. Large values are in boxes, so that a stack of parts is small.
+/// What a part means, by its sort. Large values are in boxes, so that a stack of parts is small.
 #[derive(Drop)]
 pub enum Value<'a> {
     /// A part that is left out, or that means nothing.
     Nothing,
     Token(Token<'a>),
     Identifier(Identifier),
+    // expressions and left sides
     Expr(Boxed<Expr>),
     Exprs(Stack<Expr>),
     Chain(Stack<Link>),
     Branches(Boxed<Branches>),
-    Stmt(Boxed<Stmt>),
-    Item(Boxed<Item>),
-    ExpressionPart(Boxed<ExpressionPart>),
-    StatementPart(Boxed<StatementPart>),
-    EventPart(Boxed<EventPart>),
-    DeclarationPart(Boxed<DeclarationPart>),
-    ParameterPart(Boxed<ParameterPart>),
-    HeadPart(Boxed<HeadPart>),
-    ItemPart(Boxed<ItemPart>),
-    InstancePart(Boxed<InstancePart>),
-    ModulePart(Boxed<ModulePart>),
-}
-
-/// What a part of an expression or a left side means.
-#[derive(Drop)]
-pub enum ExpressionPart {
     Select(Select),
     SelectEnd(SelectEnd),
     BraceEnd(BraceEnd),
-    LeftSide(LeftSide),
+    LeftSide(Boxed<LeftSide>),
     LeftSides(Stack<LeftSide>),
-}
-
-/// What a part of a statement means.
-#[derive(Drop)]
-pub enum StatementPart {
+    // statements
+    Stmt(Boxed<Stmt>),
     Stmts(Stack<Stmt>),
     Sign(AssignmentSign),
     CaseKeyword(CaseKeyword),
     CaseItem(CaseItem),
     CaseItems(Stack<CaseItem>),
-}
-
-/// What a part of an event control or of a call of a task means.
-#[derive(Drop)]
-pub enum EventPart {
+    // event controls and calls of tasks
     Event(EventExpression),
     Events(Stack<EventExpression>),
     EventControl(EventControl),
     Argument(Argument),
     Arguments(Stack<Argument>),
-}
-
-/// What a part of a declaration means.
-#[derive(Drop)]
-pub enum DeclarationPart {
+    // declarations
     Vector(VectorType),
+    Range(Range),
     DeclaredName(DeclaredName),
     DeclaredNames(Stack<DeclaredName>),
-    OutputNames(OutputNames),
-    Range(Range),
-}
-
-/// What a part of a declaration of parameters means.
-#[derive(Drop)]
-pub enum ParameterPart {
+    OutputNames(Boxed<OutputNames>),
     ParameterType(ParameterType),
     Parameter(ParameterAssignment),
     Parameters(Stack<ParameterAssignment>),
-}
-
-/// What a part of the parameters in the head of a module means.
-#[derive(Drop)]
-pub enum HeadPart {
-    ParameterDeclarations(Stack<ParameterDeclaration>),
-    ParameterPort(ParameterPort),
-    MoreParameters(MoreParameters),
-}
-
-/// What a part of an item means.
-#[derive(Drop)]
-pub enum ItemPart {
-    Assignment(Assignment),
+    // items
+    Item(Boxed<Item>),
+    Items(Stack<Item>),
+    Assignment(Boxed<Assignment>),
     Assignments(Stack<Assignment>),
     Delay(Delay),
-    Items(Stack<Item>),
-}
-
-/// What a part of an instantiation means.
-#[derive(Drop)]
-pub enum InstancePart {
     ParameterValues(ParameterValues),
     Connection(NamedConnection),
     NamedConnections(Stack<NamedConnection>),
     OrderedConnections(Stack<Option<Boxed<Expr>>>),
     Connections(Connections),
-    Instance(Instance),
+    Instance(Boxed<Instance>),
     Instances(Stack<Instance>),
-}
-
-/// What a part of a module means.
-#[derive(Drop)]
-pub enum ModulePart {
+    // modules
     Modules(Stack<Module>),
+    ParameterDeclarations(Stack<ParameterDeclaration>),
+    ParameterPort(Boxed<ParameterPort>),
+    MoreParameters(MoreParameters),
     Ports(Ports),
     PortDeclarations(Stack<PortDeclaration>),
     MorePorts(MorePorts),
-    OutputPorts(OutputPorts),
+    OutputPorts(Boxed<OutputPorts>),
     Identifiers(Stack<Identifier>),
 }
 
@@ -143,7 +97,7 @@ pub const NO_SPAN: Span = Span {
 
 impl<'a> Stack<Value<'a>> {
     /// The next part.
-    #[tactic(auto, unfolding(crate::specs::Values::first, crate::specs::Values::rest))]
+    #[tactic(auto, unfolding(crate::specs::Numbered::first, crate::specs::Numbered::rest))]
     pub fn next(&mut self) -> Value<'a>
         ensures value { result ≡ first self.old }
         ensures rest { self.new ≡ rest self.old }

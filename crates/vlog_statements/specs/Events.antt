@@ -7,10 +7,11 @@ use Rattle.vlog_syntax.specs.declared.stmt.Argument.TheVariants as ar
 use Rattle.vlog_grammar.specs.declared.rule.Rule.{Rule}
 use Rattle.vlog_grammar.specs.declared.rule.Rule.TheVariants as r
 use Rattle.vlog_parts.specs.declared.value.Value.{Value}
-use Rattle.vlog_parts.specs.Sorts as v
+use Rattle.vlog_parts.specs.declared.value.Value.TheVariants as v
 use Rattle.vlog_parts.specs.Leaves.{string}
 use Rattle.vlog_items.specs.Items.{made_item}
-use Rattle.vlog_parts.specs.Values.{first, second, third, span_of, token_of, identifier_of, expr_of, event_of, events_of, argument_of, arguments_of}
+use Rattle.vlog_parts.specs.Numbered.{first, second, third}
+use Rattle.vlog_parts.specs.Values.{span_of, token_of, identifier_of, expr_of, event_of, events_of, argument_of, arguments_of}
 
 abbrev pub edge_event : Edge → List Value → Value
 edge_event edge ms = v.Event (record { edge = edge; name = identifier_of (second ms) })

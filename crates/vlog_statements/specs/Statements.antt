@@ -13,11 +13,12 @@ use Rattle.vlog_grammar.specs.declared.rule.Rule.TheVariants as r
 use Rattle.vlog_parts.specs.declared.statement_parts.AssignmentSign.{AssignmentSign}
 use Rattle.vlog_parts.specs.declared.statement_parts.AssignmentSign.TheVariants as sg
 use Rattle.vlog_parts.specs.declared.value.Value.{Value}
-use Rattle.vlog_parts.specs.Sorts as v
+use Rattle.vlog_parts.specs.declared.value.Value.TheVariants as v
 use Rattle.vlog_parts.specs.Leaves.{identifier}
 use Rattle.vlog_statements.specs.Events.{made_event}
 use Rattle.vlog_items.specs.Items.{assignment}
-use Rattle.vlog_parts.specs.Values.{first, second, third, fourth, fifth, sixth, seventh, ninth, tenth, eleventh, thirteenth, span_of, token_of, label_of, expr_of, exprs_of, left_of, stmt_of, stmts_of, option_stmt_of, sign_of, case_keyword_of, case_item_of, case_items_of, event_control_of, arguments_of}
+use Rattle.vlog_parts.specs.Numbered.{first, second, third, fourth, fifth, sixth, seventh, ninth, tenth, eleventh, thirteenth}
+use Rattle.vlog_parts.specs.Values.{span_of, token_of, label_of, expr_of, exprs_of, left_of, stmt_of, stmts_of, option_stmt_of, sign_of, case_keyword_of, case_item_of, case_items_of, event_control_of, arguments_of}
 
 unfoldable pub assigned : LeftSide → AssignmentSign → Expr → Stmt
 assigned x (sg.Blocking place) y = t.BlockingAssignment (record { left = x; span = place; value = y })

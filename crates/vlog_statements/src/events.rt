@@ -2,17 +2,18 @@
 #![tactic(auto, unfolding(crate::specs::Events::made_event, vlog_parts::specs::Kinds::is_of_kind, vlog_grammar::specs::Grammar::production))]
 
 ghost use Rattle.std.specs.Prelude.{◌≡◌, ◌∷◌, true, IfOk};
-ghost use Rattle.vlog_syntax.specs.declared.stmt.EventControl.TheVariants as ec;
 ghost use Rattle.vlog_grammar.specs.declared.rule.Rule.TheVariants as r;
-ghost use Rattle.vlog_parts.specs.Sorts as v;
-ghost use Rattle.vlog_parts.specs.Values.{second, third, event_of, events_of, is_event, is_identifier};
+ghost use Rattle.vlog_parts.specs.declared.value.Value.TheVariants as v;
+ghost use Rattle.vlog_parts.specs.Sorts.{is_event, is_identifier};
+ghost use Rattle.vlog_parts.specs.Numbered.{second, third};
+ghost use Rattle.vlog_parts.specs.Values.{event_of, events_of};
 ghost use Rattle.vlog_parts.specs.Kinds.{sorted};
 ghost use Rattle.vlog_statements.specs.Events as spec;
 
 use std::alloc::{AllocError, Global};
 use vlog_grammar::Rule;
 use vlog_items::make_item;
-use vlog_parts::{EventPart, NO_SPAN, Parts, Stack, Value, boxed_event_part, string};
+use vlog_parts::{NO_SPAN, Parts, Stack, Value, string};
 use vlog_syntax::{Argument, Edge, EventControl, EventExpression};
 
 /// A name alone, as the only event.
@@ -25,10 +26,7 @@ fn event_identifier<'a>(alloc: Global, parts: &mut Parts<'a>) -> Result<Value<'a
         edge: Edge::Any,
         name,
     })?;
-    boxed_event_part(
-        alloc,
-        EventPart::EventControl(EventControl::List(events.into_listed())),
-    )
+    Ok(Value::EventControl(EventControl::List(events.into_listed())))
 }
 
 /// A list of events.
@@ -37,36 +35,30 @@ fn event_list<'a>(alloc: Global, parts: &mut Parts<'a>) -> Result<Value<'a>, All
     ensures { IfOk result (λ x. x ≡ spec.made_event r.EventList parts.old) }
 {
     let events = parts.some_events(alloc)?;
-    boxed_event_part(
-        alloc,
-        EventPart::EventControl(EventControl::List(events.into_listed())),
-    )
+    Ok(Value::EventControl(EventControl::List(events.into_listed())))
 }
 
 /// A name behind the word of its edge.
 #[tactic(auto)]
-fn edge_event<'a>(alloc: Global, edge: Edge, parts: &mut Parts<'a>) -> Result<Value<'a>, AllocError>
+fn edge_event<'a>(edge: Edge, parts: &mut Parts<'a>) -> Value<'a>
     requires { is_identifier (second parts.old) ≡ true }
-    ensures { IfOk result (λ x. x ≡ spec.edge_event edge parts.old) }
+    ensures { result ≡ spec.edge_event edge parts.old }
 {
     parts.skip();
     let name = parts.identifier();
-    boxed_event_part(alloc, EventPart::Event(EventExpression { edge, name }))
+    Value::Event(EventExpression { edge, name })
 }
 
 /// A name alone.
-fn plain_event<'a>(alloc: Global, parts: &mut Parts<'a>) -> Result<Value<'a>, AllocError>
+fn plain_event<'a>(parts: &mut Parts<'a>) -> Value<'a>
     requires { sorted r.PlainEvent parts.old ≡ true }
-    ensures { IfOk result (λ x. x ≡ spec.made_event r.PlainEvent parts.old) }
+    ensures { result ≡ spec.made_event r.PlainEvent parts.old }
 {
     let name = parts.identifier();
-    boxed_event_part(
-        alloc,
-        EventPart::Event(EventExpression {
-            edge: Edge::Any,
-            name,
-        }),
-    )
+    Value::Event(EventExpression {
+        edge: Edge::Any,
+        name,
+    })
 }
 
 /// An event behind `or` or `,`, and those behind it.
@@ -77,7 +69,7 @@ fn next_event<'a>(alloc: Global, parts: &mut Parts<'a>) -> Result<Value<'a>, All
 {
     parts.skip();
     let events = parts.some_events(alloc)?;
-    boxed_event_part(alloc, EventPart::Events(events))
+    Ok(Value::Events(events))
 }
 
 /// An argument, and those behind it.
@@ -86,7 +78,7 @@ fn first_task_argument<'a>(alloc: Global, parts: &mut Parts<'a>) -> Result<Value
     ensures { IfOk result (λ x. x ≡ spec.made_event r.FirstTaskArgument parts.old) }
 {
     let arguments = parts.some_arguments(alloc)?;
-    boxed_event_part(alloc, EventPart::Arguments(arguments))
+    Ok(Value::Arguments(arguments))
 }
 
 /// An argument behind a `,`, and those behind it.
@@ -96,7 +88,7 @@ fn next_task_argument<'a>(alloc: Global, parts: &mut Parts<'a>) -> Result<Value<
 {
     parts.skip();
     let arguments = parts.some_arguments(alloc)?;
-    boxed_event_part(alloc, EventPart::Arguments(arguments))
+    Ok(Value::Arguments(arguments))
 }
 
 /// A string.
@@ -105,26 +97,16 @@ fn string_argument<'a>(alloc: Global, parts: &mut Parts<'a>) -> Result<Value<'a>
 {
     let token = parts.token();
     let span = token.map_or(NO_SPAN, |token| token.span);
-    boxed_event_part(
-        alloc,
-        EventPart::Argument(Argument::String(string(alloc, token)?, span)),
-    )
-}
-
-/// Any event.
-fn event_any<'a>(alloc: Global) -> Result<Value<'a>, AllocError>
-    ensures { IfOk result (λ x. x ≡ v.EventControl ec.Implicit) }
-{
-    boxed_event_part(alloc, EventPart::EventControl(EventControl::Implicit))
+    Ok(Value::Argument(Argument::String(string(alloc, token)?, span)))
 }
 
 /// An expression.
-fn expression_argument<'a>(alloc: Global, parts: &mut Parts<'a>) -> Result<Value<'a>, AllocError>
+fn expression_argument<'a>(parts: &mut Parts<'a>) -> Value<'a>
     requires { sorted r.ExpressionArgument parts.old ≡ true }
-    ensures { IfOk result (λ x. x ≡ spec.made_event r.ExpressionArgument parts.old) }
+    ensures { result ≡ spec.made_event r.ExpressionArgument parts.old }
 {
     let expr = parts.expr();
-    boxed_event_part(alloc, EventPart::Argument(Argument::Expr(expr)))
+    Value::Argument(Argument::Expr(expr))
 }
 
 /// What a production of events or of arguments of system tasks means.
@@ -138,19 +120,19 @@ pub fn make_event<'a>(
     ensures { IfOk result (λ x. x ≡ spec.made_event rule parts.old) }
 {
     match rule {
-        Rule::EventAny => event_any(alloc),
-        Rule::EventAnyInParens => event_any(alloc),
+        Rule::EventAny => Ok(Value::EventControl(EventControl::Implicit)),
+        Rule::EventAnyInParens => Ok(Value::EventControl(EventControl::Implicit)),
         Rule::EventIdentifier => event_identifier(alloc, parts),
         Rule::EventList => event_list(alloc, parts),
-        Rule::PosedgeEvent => edge_event(alloc, Edge::Posedge, parts),
-        Rule::NegedgeEvent => edge_event(alloc, Edge::Negedge, parts),
-        Rule::PlainEvent => plain_event(alloc, parts),
+        Rule::PosedgeEvent => Ok(edge_event(Edge::Posedge, parts)),
+        Rule::NegedgeEvent => Ok(edge_event(Edge::Negedge, parts)),
+        Rule::PlainEvent => Ok(plain_event(parts)),
         Rule::OrEvent => next_event(alloc, parts),
         Rule::CommaEvent => next_event(alloc, parts),
         Rule::FirstTaskArgument => first_task_argument(alloc, parts),
         Rule::NextTaskArgument => next_task_argument(alloc, parts),
         Rule::StringArgument => string_argument(alloc, parts),
-        Rule::ExpressionArgument => expression_argument(alloc, parts),
+        Rule::ExpressionArgument => Ok(expression_argument(parts)),
         _ => make_item(alloc, rule, parts),
     }
 }

@@ -2,10 +2,11 @@
 #![tactic(auto, unfolding(crate::specs::Statements::made_statement, vlog_parts::specs::Kinds::is_of_kind, vlog_grammar::specs::Grammar::production))]
 
 ghost use Rattle.std.specs.Prelude.{◌≡◌, ◌∷◌, true, IfOk};
-ghost use Rattle.vlog_syntax.specs.declared.stmt.Stmt.TheVariants as t;
 ghost use Rattle.vlog_grammar.specs.declared.rule.Rule.TheVariants as r;
-ghost use Rattle.vlog_parts.specs.Sorts as v;
-ghost use Rattle.vlog_parts.specs.Values.{first, rest, second, third, span_of, expr_of, stmt_of, case_item_of, case_items_of, is_expr, is_left, is_stmt, is_case_item};
+ghost use Rattle.vlog_parts.specs.declared.value.Value.TheVariants as v;
+ghost use Rattle.vlog_parts.specs.Sorts.{is_case_item};
+ghost use Rattle.vlog_parts.specs.Numbered.{first, second};
+ghost use Rattle.vlog_parts.specs.Values.{case_item_of, case_items_of};
 ghost use Rattle.vlog_parts.specs.Kinds.{sorted};
 ghost use Rattle.vlog_statements.specs.Statements as spec;
 
@@ -13,10 +14,7 @@ use crate::events::make_event;
 use std::alloc::{AllocError, Global};
 use vlog_grammar::Rule;
 use vlog_items::assignment;
-use vlog_parts::{
-    AssignmentSign, CaseKeyword, Parts, StatementPart, Value, boxed_statement_part, boxed_stmt,
-    identifier,
-};
+use vlog_parts::{AssignmentSign, CaseKeyword, Parts, Value, boxed_stmt, identifier};
 use vlog_syntax::{Assignment, Boxed, CaseItem, CaseKind, Expr, LeftSide, Listed, Stmt};
 
 /// A sequential block.
@@ -181,23 +179,16 @@ fn more_statements<'a>(alloc: Global, parts: &mut Parts<'a>) -> Result<Value<'a>
     ensures { IfOk result (λ x. x ≡ spec.made_statement r.MoreStatements parts.old) }
 {
     let stmts = parts.some_stmts(alloc)?;
-    boxed_statement_part(alloc, StatementPart::Stmts(stmts))
+    Ok(Value::Stmts(stmts))
 }
 
 /// The keyword of a case statement.
 #[tactic(auto)]
-fn case_keyword<'a>(
-    alloc: Global,
-    kind: CaseKind,
-    parts: &mut Parts<'a>,
-) -> Result<Value<'a>, AllocError>
-    ensures { IfOk result (λ x. x ≡ spec.case_keyword kind parts.old) }
+fn case_keyword<'a>(kind: CaseKind, parts: &mut Parts<'a>) -> Value<'a>
+    ensures { result ≡ spec.case_keyword kind parts.old }
 {
     let span = parts.span();
-    boxed_statement_part(
-        alloc,
-        StatementPart::CaseKeyword(CaseKeyword { span, kind }),
-    )
+    Value::CaseKeyword(CaseKeyword { span, kind })
 }
 
 /// An item, and those behind it.
@@ -207,7 +198,7 @@ fn more_case_items<'a>(alloc: Global, parts: &mut Parts<'a>) -> Result<Value<'a>
     ensures { IfOk result (λ x. x ≡ v.CaseItems (case_item_of (first parts.old) ∷ case_items_of (second parts.old))) }
 {
     let items = parts.some_case_items(alloc)?;
-    boxed_statement_part(alloc, StatementPart::CaseItems(items))
+    Ok(Value::CaseItems(items))
 }
 
 /// An item with labels.
@@ -220,32 +211,26 @@ fn labelled_case_item<'a>(alloc: Global, parts: &mut Parts<'a>) -> Result<Value<
     let labels = parts.exprs(alloc).with(label)?;
     parts.skip();
     let body = parts.stmt();
-    boxed_statement_part(
-        alloc,
-        StatementPart::CaseItem(CaseItem {
-            span,
-            labels: labels.into_listed(),
-            body,
-        }),
-    )
+    Ok(Value::CaseItem(CaseItem {
+        span,
+        labels: labels.into_listed(),
+        body,
+    }))
 }
 
 /// The default.
-fn default_case_item<'a>(alloc: Global, parts: &mut Parts<'a>) -> Result<Value<'a>, AllocError>
+fn default_case_item<'a>(alloc: Global, parts: &mut Parts<'a>) -> Value<'a>
     requires { sorted r.DefaultCaseItem parts.old ≡ true }
-    ensures { IfOk result (λ x. x ≡ spec.made_statement r.DefaultCaseItem parts.old) }
+    ensures { result ≡ spec.made_statement r.DefaultCaseItem parts.old }
 {
     let span = parts.span();
     parts.skip();
     let body = parts.stmt();
-    boxed_statement_part(
-        alloc,
-        StatementPart::CaseItem(CaseItem {
-            span,
-            labels: Listed::from_vec(Vec::new(alloc)),
-            body,
-        }),
-    )
+    Value::CaseItem(CaseItem {
+        span,
+        labels: Listed::from_vec(Vec::new(alloc)),
+        body,
+    })
 }
 
 /// A statement of one token.
@@ -256,22 +241,19 @@ fn null_statement<'a>(alloc: Global, parts: &mut Parts<'a>) -> Result<Value<'a>,
 }
 
 /// The sign of a blocking assignment.
-fn blocking<'a>(alloc: Global, parts: &mut Parts<'a>) -> Result<Value<'a>, AllocError>
-    ensures { IfOk result (λ x. x ≡ spec.made_statement r.Blocking parts.old) }
+fn blocking<'a>(parts: &mut Parts<'a>) -> Value<'a>
+    ensures { result ≡ spec.made_statement r.Blocking parts.old }
 {
     let span = parts.span();
-    boxed_statement_part(alloc, StatementPart::Sign(AssignmentSign::Blocking(span)))
+    Value::Sign(AssignmentSign::Blocking(span))
 }
 
 /// The sign of a nonblocking assignment.
-fn nonblocking<'a>(alloc: Global, parts: &mut Parts<'a>) -> Result<Value<'a>, AllocError>
-    ensures { IfOk result (λ x. x ≡ spec.made_statement r.Nonblocking parts.old) }
+fn nonblocking<'a>(parts: &mut Parts<'a>) -> Value<'a>
+    ensures { result ≡ spec.made_statement r.Nonblocking parts.old }
 {
     let span = parts.span();
-    boxed_statement_part(
-        alloc,
-        StatementPart::Sign(AssignmentSign::Nonblocking(span)),
-    )
+    Value::Sign(AssignmentSign::Nonblocking(span))
 }
 
 /// What a production of statements means.
@@ -298,19 +280,19 @@ pub fn make_statement<'a>(
         Rule::SystemTaskEnable => system_task(alloc, parts),
         Rule::UnaryFunctionEnable => system_task(alloc, parts),
         Rule::Assignment => assignment_statement(alloc, parts),
-        Rule::Blocking => blocking(alloc, parts),
-        Rule::Nonblocking => nonblocking(alloc, parts),
+        Rule::Blocking => Ok(blocking(parts)),
+        Rule::Nonblocking => Ok(nonblocking(parts)),
         Rule::MoreStatements => more_statements(alloc, parts),
-        Rule::CaseExact => case_keyword(alloc, CaseKind::Case, parts),
-        Rule::CaseZ => case_keyword(alloc, CaseKind::Casez, parts),
-        Rule::CaseX => case_keyword(alloc, CaseKind::Casex, parts),
+        Rule::CaseExact => Ok(case_keyword(CaseKind::Case, parts)),
+        Rule::CaseZ => Ok(case_keyword(CaseKind::Casez, parts)),
+        Rule::CaseX => Ok(case_keyword(CaseKind::Casex, parts)),
         Rule::FirstCaseItem => more_case_items(alloc, parts),
         Rule::FirstDefault => more_case_items(alloc, parts),
         Rule::NextCaseItem => more_case_items(alloc, parts),
         Rule::NextDefault => more_case_items(alloc, parts),
         Rule::NextLabelledItem => more_case_items(alloc, parts),
         Rule::LabelledCaseItem => labelled_case_item(alloc, parts),
-        Rule::DefaultCaseItem => default_case_item(alloc, parts),
+        Rule::DefaultCaseItem => Ok(default_case_item(alloc, parts)),
         _ => make_event(alloc, rule, parts),
     }
 }

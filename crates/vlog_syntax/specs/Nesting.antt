@@ -121,9 +121,6 @@ case_item_nest_step x = max (greatest (map expr_nest x.labels)) x.body
 abbrev pub stmt_nest : Stmt → ℕ
 stmt_nest = fold-Stmt ℕ ℕ stmt_nest_step case_item_nest_step
 
-abbrev pub case_item_nest : CaseItem → ℕ
-case_item_nest = fold-CaseItem ℕ ℕ stmt_nest_step case_item_nest_step
-
 -- Declarations and the other items without blocks
 
 abbrev pub range_nest : Option Range → ℕ
@@ -208,3 +205,8 @@ ports_nest (o.Declarations declarations) = greatest (map port_nest declarations)
 
 abbrev pub module_nest : Module → ℕ
 module_nest x = max (greatest (map parameter_nest x.parameters)) (max (ports_nest x.ports) (greatest (map item_nest x.items)))
+
+-- For proofs alone.
+
+abbrev pub case_item_nest : CaseItem → ℕ
+case_item_nest = fold-CaseItem ℕ ℕ stmt_nest_step case_item_nest_step

@@ -1,26 +1,15 @@
 -- One piece stands at a place, or one fault, and never both.
-use Rattle.std.proofs.Common.{◌≡◌, ℕ, suc, ◌+◌, ◌<◌, ◌≤◌, true, false, not, ◌||◌, ◌&&◌, List, [], ◌∷◌, ◌++◌, length, drop, get_or, refl, sym, ap, ◌∙◌, subst, arith, ⊎_elim, inl, inr, append_assoc, append-nil, length-append, add-zero}
-use Rattle.std.specs.Prelude.{Option, Some, None, Result, Ok, Err, ◌==◌, IsSome}
-use Rattle.std.proofs.lemmas.Bool.{cases_lt, or_left, and_left, or_from}
-use Rattle.std.proofs.lemmas.List.{append_cancel_left, get_or_append_left, get_or-append-add}
-use Rattle.std.specs.Char.{is_ascii_digit}
-use Rattle.std.proofs.lemmas.Bool.Decides.{nat_tests}
-use Rattle.mcy_base.specs.declared.span.Span.{Span}
-use Rattle.vlog_token.specs.declared.token.TokenKind.{TokenKind}
-use Rattle.vlog_token.specs.declared.token.TokenKind.TheVariants.{Name, Escaped, System, Directive, Number, String, Symbol}
+use Rattle.vlog_token.proofs.Common.{◌≡◌, ℕ, suc, ◌+◌, ◌<◌, ◌≤◌, true, false, not, ◌||◌, ◌&&◌, List, [], ◌∷◌, ◌++◌, length, drop, get_or, refl, sym, ap, ◌∙◌, subst, arith, ⊎_elim, inl, inr}
+use Rattle.vlog_token.proofs.Common.{append_assoc, append-nil, length-append, add-zero, Option, Some, None, Result, Ok, Err, ◌==◌, IsSome, cases_lt, or_left, and_left, or_from, append_cancel_left}
+use Rattle.vlog_token.proofs.Common.{get_or_append_left, get_or-append-add, is_ascii_digit, nat_tests, Span, TokenKind, Name, Escaped, System, Directive, Number, String, Symbol, is_blank, is_in_line}
+use Rattle.vlog_token.proofs.Common.{Fits, number_of, NumberMeaning, place_after, Piece, Gap, Word, bytes_of, begins_gap, EndsLine, HasValue, IsBadCharacter, IsBadNumber, IsBlank, IsBlockComment}
+use Rattle.vlog_token.proofs.Common.{IsGap, IsHere, IsLineComment, IsOpenComment, IsOpenString, IsTokenHere, NoneCloses, AllStand, IsAnswer, SeenToken, source_of, StopsAt, tokens_among, kind_from}
 use Rattle.vlog_token.specs.declared.token.TokenError.{TokenError}
 use Rattle.vlog_token.specs.declared.token.TokenError.TheVariants as errors
-use Rattle.vlog_token.specs.Bytes.{is_blank, is_in_line}
-use Rattle.vlog_token.specs.Kinds.{Fits}
-use Rattle.vlog_token.specs.Numbers.{number_of, NumberMeaning}
-use Rattle.vlog_token.specs.Places.{place_after}
-use Rattle.vlog_token.specs.Pieces.{Piece, Gap, Word, bytes_of, begins_gap, EndsLine, HasValue, IsBadCharacter, IsBadNumber, IsBlank, IsBlockComment, IsGap, IsHere, IsLineComment, IsOpenComment, IsOpenString, IsTokenHere, NoneCloses}
-use Rattle.vlog_token.specs.Sources.{AllStand, IsAnswer, SeenToken, source_of, StopsAt, tokens_among}
 use Rattle.vlog_token.proofs.Runs.{run_is, run_length, Stops}
 use Rattle.vlog_token.proofs.KindLemmas.{fits_begins, front_kind}
 use Rattle.vlog_token.proofs.TokenLemmas.{same_kind}
 use Rattle.vlog_token.proofs.ScanLemmas.{piece_some}
-use Rattle.vlog_token.specs.Reading.{kind_from}
 
 -- the same length in front of the same bytes: the same bytes
 same_front : (xs ys a b : List ℕ) → xs ++ a ≡ ys ++ b → length xs ≡ length ys → xs ≡ ys

@@ -1,20 +1,11 @@
 -- A text may be cut behind each piece: its last byte is ASCII, or the next one is.
-use Rattle.std.proofs.Common.{◌≡◌, ℕ, ◌+◌, ◌<◌, ◌≤◌, Bool, true, false, cond, not, ◌||◌, ◌⊎◌, List, [], ◌∷◌, ◌++◌, length, take, drop, get_or, refl, sym, ap, ◌∙◌, subst, arith, ⊎_elim, inl, inr, append_assoc, length-append, IsUtf8, append-nil, add-zero, take-append-drop, length-take-le}
-use Rattle.std.specs.Prelude.{Option, Some, None, ◌==◌, codes, nat_lt}
-use Rattle.std.specs.List.{list_all, concat}
+use Rattle.vlog_token.proofs.Common.{◌≡◌, ℕ, ◌+◌, ◌<◌, ◌≤◌, Bool, true, false, cond, not, ◌||◌, ◌⊎◌, List, [], ◌∷◌, ◌++◌, length, take, drop, get_or, refl, sym, ap, ◌∙◌, subst, arith, ⊎_elim, inl}
+use Rattle.vlog_token.proofs.Common.{inr, append_assoc, length-append, IsUtf8, append-nil, add-zero, take-append-drop, length-take-le, Option, Some, None, ◌==◌, codes, nat_lt, list_all, concat}
+use Rattle.vlog_token.proofs.Common.{eqb-true, ltb-true, or_cases, nat_tests, get_or-append-add, get_or_append_left, TokenKind, Name, Escaped, System, Directive, Number, String, Symbol, AllAre}
+use Rattle.vlog_token.proofs.Common.{is_among, is_blank, is_decimal_part, is_digit_part, is_name_part, is_sign, is_solid, radix_of, IsSymbol, doubles, seconds, singles, IsBase, IsDigits, IsLettered}
+use Rattle.vlog_token.proofs.Common.{IsShape, Behind, Fits, IsLongest, IsName, IsSolid, IsBlank, IsGap, IsHere, EndsLine, piece_of}
 use Rattle.std.specs.Str.{IsCharBoundary}
-use Rattle.std.proofs.lemmas.Bool.{eqb-true, ltb-true, or_cases}
-use Rattle.std.proofs.lemmas.Bool.Decides.{nat_tests}
-use Rattle.std.proofs.lemmas.List.{get_or-append-add, get_or_append_left}
 use Rattle.std.proofs.lemmas.Str.{IsCharBoundary-after_ascii, IsCharBoundary-before_ascii, IsCharBoundary-end}
-use Rattle.vlog_token.specs.declared.token.TokenKind.{TokenKind}
-use Rattle.vlog_token.specs.declared.token.TokenKind.TheVariants.{Name, Escaped, System, Directive, Number, String, Symbol}
-use Rattle.vlog_token.specs.Bytes.{AllAre, is_among, is_blank, is_decimal_part, is_digit_part, is_name_part, is_sign, is_solid, radix_of}
-use Rattle.vlog_token.specs.Symbols.{IsSymbol, doubles, seconds, singles}
-use Rattle.vlog_token.specs.Shapes.{IsBase, IsDigits, IsLettered, IsShape}
-use Rattle.vlog_token.specs.Kinds.{Behind, Fits, IsLongest, IsName, IsSolid}
-use Rattle.vlog_token.specs.Pieces.{IsBlank, IsGap, IsHere, EndsLine}
-use Rattle.vlog_token.specs.Reading.{piece_of}
 use Rattle.vlog_token.proofs.Fronts.{parts_of_name}
 use Rattle.vlog_token.proofs.KindLemmas.{among_passes}
 use Rattle.vlog_token.proofs.ShapeFronts.{digits_parts}

@@ -1,13 +1,6 @@
 -- The longest fronts of each form.
-use Rattle.std.proofs.Common.{◌≡◌, ℕ, ◌+◌, ◌<◌, true, false, List, [], ◌∷◌, length, length-take-le, take, sym, ap, ◌∙◌, subst, arith}
-use Rattle.std.specs.Prelude.{slice_index}
-use Rattle.std.specs.List.{prefix_len}
-use Rattle.std.proofs.lemmas.Bool.{cond-true}
-use Rattle.std.proofs.lemmas.Bool.Decides.{nat_tests}
-use Rattle.std.proofs.lemmas.List.Sums.{prefix_len-le-length}
-use Rattle.vlog_token.specs.Bytes.{AllAre, is_name_start, is_name_part, is_solid}
-use Rattle.vlog_token.specs.Kinds.{IsName, IsSolid}
-use Rattle.vlog_token.specs.Reading.{IsLongestFront, NoFront}
+use Rattle.vlog_token.proofs.Common.{◌≡◌, ℕ, ◌+◌, ◌<◌, true, List, [], ◌∷◌, length, length-take-le, take, sym, ◌∙◌, subst, arith, slice_index, prefix_len, cond-true, nat_tests, prefix_len-le-length}
+use Rattle.vlog_token.proofs.Common.{AllAre, is_name_start, is_name_part, is_solid, IsName, IsSolid, IsLongestFront}
 use Rattle.vlog_token.proofs.Runs.{run_fits, run_longest, one_more}
 
 -- a name's first byte is also a part of names
@@ -31,14 +24,6 @@ name_front (c ∷ cs) some start = record {
   longest = λ text more h e. run_longest is_name_part (c ∷ cs) text more (parts_of_name text h) e;
 }
 
--- a name begins with its start
-pub no_name : (bytes : List ℕ) → (0 < length bytes → is_name_start (slice_index bytes 0) ≡ false) → NoFront IsName bytes
-no_name bytes start [] more h e = absurd h
-no_name bytes start (c ∷ cs) more h e =
-    let same : is_name_start (slice_index bytes 0) ≡ false = start (subst (λ b. 0 < length b) (sym e) (omega arith)) in
-    let first : slice_index bytes 0 ≡ c = ap (λ b. slice_index b 0) e in
-    let both : true ≡ false = sym h.0 ∙ ap is_name_start (sym first) ∙ same in cc
-
 solid_in : (cs : List ℕ) → 0 < length cs → AllAre is_solid cs → IsSolid cs
 solid_in [] some h = absurd (omega arith)
 solid_in (c ∷ cs) some h = h
@@ -54,8 +39,3 @@ solid_front bytes some =
       fits = solid_in (take (prefix_len is_solid bytes) bytes) (subst (λ n. 0 < n) (sym (length-take-le (prefix_len is_solid bytes) bytes within)) some) (run_fits is_solid bytes);
       longest = λ text more h e. run_longest is_solid bytes text more (solid_parts text h) e;
     }
-
-pub no_solid : (bytes : List ℕ) → prefix_len is_solid bytes ≡ 0 → NoFront IsSolid bytes
-no_solid bytes none [] more h e = absurd h
-no_solid bytes none (c ∷ cs) more h e =
-    let long = run_longest is_solid bytes (c ∷ cs) more h e in absurd (omega (arith, long, none))

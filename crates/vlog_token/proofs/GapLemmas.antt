@@ -1,13 +1,8 @@
 -- Blanks and comments at the front.
-use Rattle.std.proofs.Common.{◌≡◌, ℕ, suc, ◌+◌, ◌<◌, ◌≤◌, Bool, true, false, ◌||◌, ◌&&◌, List, [], ◌∷◌, ◌++◌, length, take, drop, get_or, refl, sym, ap, ◌∙◌, subst, arith, ⊎_elim, inl, inr, append_assoc, length-take-le}
-use Rattle.std.specs.Prelude.{◌==◌, not}
-use Rattle.std.specs.List.{prefix_len}
-use Rattle.std.proofs.lemmas.Bool.{and_parts, or_cases, eqb-true, cases_lt}
-use Rattle.std.proofs.lemmas.List.{get_or-take, get_or_past, take_more}
-use Rattle.std.proofs.lemmas.List.Sums.{prefix_len-le-length}
-use Rattle.vlog_token.specs.Bytes.{is_blank, is_newline, is_in_line}
-use Rattle.vlog_token.specs.Pieces.{begins_comment, EndsLine, IsGap, IsOpenComment, NoneCloses}
-use Rattle.vlog_token.specs.Reading.{IsFirstClose}
+use Rattle.vlog_token.proofs.Common.{◌≡◌, ℕ, suc, ◌+◌, ◌<◌, ◌≤◌, Bool, true, false, ◌||◌, ◌&&◌, List, [], ◌∷◌, ◌++◌, length, take, drop, get_or, refl, sym, ap, ◌∙◌, subst, arith, ⊎_elim, inl, inr}
+use Rattle.vlog_token.proofs.Common.{append_assoc, length-take-le, ◌==◌, prefix_len, and_parts, or_cases, eqb-true, cases_lt, get_or-take, get_or_past, take_more, prefix_len-le-length, is_newline}
+use Rattle.vlog_token.proofs.Common.{is_in_line, begins_comment, EndsLine, IsGap, NoneCloses, IsFirstClose}
+use Rattle.std.specs.Prelude.{not}
 use Rattle.vlog_token.proofs.Runs.{run_fits, run_stops, Stops}
 
 not_is_false : (b : Bool) → not b ≡ false → b ≡ true
@@ -21,10 +16,6 @@ ends_line (c ∷ cs) h = not_is_false (is_newline c) h
 -- a gap of n bytes stands in front
 abbrev pub GapOf : List ℕ → ℕ → Type 0
 GapOf bytes n = (n ≤ length bytes) × IsGap (take n bytes) (drop n bytes)
-
-pub blank_gap : (bytes : List ℕ) → 0 < length bytes → is_blank (get_or bytes 0 0) ≡ true → GapOf bytes 1
-blank_gap [] some blank = absurd (omega arith)
-blank_gap (c ∷ cs) some blank = (omega arith, inl blank)
 
 -- a comment begins with `/` and then `/` or `*`
 first_is : (a b : ℕ) → (a == 47 && (b == 47 || b == 42)) ≡ true → a ≡ 47
@@ -92,9 +83,3 @@ block_gap (a ∷ b ∷ body) at begins other first =
         first_close = none_before body at first;
       })),
     )
-
-pub open_comment : (bytes : List ℕ) → begins_comment bytes ≡ true → (get_or bytes 1 0 ≡ 47 → ⊥) → NoneCloses (drop 2 bytes) → IsOpenComment bytes
-open_comment [] begins other never = let bad : false ≡ true = begins in cc
-open_comment (a ∷ []) begins other never = let bad : false ≡ true = begins in cc
-open_comment (a ∷ b ∷ body) begins other never =
-    record { body = body; parts = two a b 47 42 body (first_is a b begins) (second_is a b begins other); never_closed = never }

@@ -1,18 +1,7 @@
 -- The first byte of a token tells its kind.
-use Rattle.std.proofs.Common.{◌≡◌, ℕ, ◌<◌, Bool, true, false, cond, ◌||◌, ◌⊎◌, List, [], ◌∷◌, ◌++◌, length, get_or, refl, sym, ap, ◌∙◌, subst, arith, ⊎_elim, inl, inr}
-use Rattle.std.specs.Prelude.{Option, Some, None, ◌==◌}
-use Rattle.std.specs.List.{list_all}
-use Rattle.std.specs.Char.{is_ascii_digit}
-use Rattle.std.proofs.lemmas.Bool.{cond-true, cond-false, or_cases, or_left, eqb-true, and_parts}
-use Rattle.std.proofs.lemmas.Bool.Decides.{nat_tests}
-use Rattle.std.proofs.lemmas.List.{get_or_append_left}
-use Rattle.vlog_token.specs.declared.token.TokenKind.{TokenKind}
-use Rattle.vlog_token.specs.declared.token.TokenKind.TheVariants.{Name, Escaped, System, Directive, Number, String, Symbol}
-use Rattle.vlog_token.specs.Bytes.{is_among, is_name_start}
-use Rattle.vlog_token.specs.Symbols.{IsSymbol, doubles, seconds, singles}
-use Rattle.vlog_token.specs.Shapes.{IsDigits, IsShape}
-use Rattle.vlog_token.specs.Kinds.{Fits}
-use Rattle.vlog_token.specs.Reading.{kind_from}
+use Rattle.vlog_token.proofs.Common.{◌≡◌, ℕ, ◌<◌, Bool, true, false, cond, ◌||◌, ◌⊎◌, List, [], ◌∷◌, ◌++◌, length, get_or, refl, sym, ap, ◌∙◌, subst, arith, ⊎_elim, inl, inr, Option, Some, None, ◌==◌}
+use Rattle.vlog_token.proofs.Common.{list_all, is_ascii_digit, cond-true, cond-false, or_cases, or_left, eqb-true, and_parts, nat_tests, get_or_append_left, TokenKind, Name, Escaped, System}
+use Rattle.vlog_token.proofs.Common.{Directive, Number, String, Symbol, is_among, is_name_start, IsSymbol, doubles, seconds, singles, IsDigits, IsShape, Fits, kind_from}
 
 -- a token of the kind may begin with this byte
 abbrev pub Starts : TokenKind → ℕ → Type 0

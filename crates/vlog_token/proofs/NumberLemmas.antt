@@ -1,14 +1,10 @@
 -- Positional notation modulo a power of two.
-use Rattle.std.proofs.Common.{◌≡◌, ℕ, ◌+◌, ◌-◌, ◌*◌, ◌%◌, ◌^◌, ◌<◌, Bool, true, cond, ◌&&◌, List, [], ◌∷◌, length, take, drop, get_or, sym, ap, ◌∙◌, arith}
-use Rattle.std.specs.Prelude.{Some, None, ◌==◌}
-use Rattle.std.specs.List.{list_all}
+use Rattle.vlog_token.proofs.Common.{◌≡◌, ℕ, ◌+◌, ◌-◌, ◌*◌, ◌%◌, ◌^◌, ◌<◌, Bool, true, cond, ◌&&◌, List, [], ◌∷◌, length, take, drop, get_or, sym, ap, ◌∙◌, arith, Some, None, ◌==◌, list_all}
+use Rattle.vlog_token.proofs.Common.{cond-true, cond-false, ne_eqb, eq-eqb, and_from, fold_more, is_digit, is_digit_part, is_x, is_z, digits_number, filled, NumberMeaning, positional, value_digit}
+use Rattle.vlog_token.proofs.Common.{x_digit, z_digit}
 use Rattle.std.proofs.Math.Nat.{mod-add-mod}
 use Rattle.std.proofs.Math.Pow.{mod-mod-pow}
-use Rattle.std.proofs.lemmas.Bool.{cond-true, cond-false, ne_eqb, eq-eqb, and_from}
 use Rattle.std.proofs.lemmas.Nat.{mul-mod_first, one_shl}
-use Rattle.std.proofs.lemmas.List.Sums.{fold_more}
-use Rattle.vlog_token.specs.Bytes.{is_digit, is_digit_part, is_x, is_z}
-use Rattle.vlog_token.specs.Numbers.{digits_number, filled, NumberMeaning, positional, value_digit, x_digit, z_digit}
 
 -- one digit more
 more_digits : (digit : ℕ → ℕ) (radix left : ℕ) (cs : List ℕ) (i : ℕ) → i < length cs → positional digit radix left (take (i + 1) cs) ≡ cond (get_or cs i 0 == 95) (positional digit radix left (take i cs)) (positional digit radix left (take i cs) * radix + digit (get_or cs i 0))

@@ -1,13 +1,7 @@
 -- The place moves on over the bytes.
-use Rattle.std.proofs.Common.{◌≡◌, ℕ, ◌+◌, ◌≤◌, cond, List, [], ◌∷◌, ◌++◌, length, sym, ap, ◌∙◌, arith, append_assoc, append-nil}
-use Rattle.std.specs.Prelude.{count_by}
-use Rattle.std.specs.List.{suffix_len, prefix_len}
-use Rattle.std.proofs.lemmas.Bool.{cond_both, cond-true, cond-false, not_from_true, not_from_false}
-use Rattle.std.proofs.lemmas.List.{reverse-append}
-use Rattle.std.proofs.lemmas.List.Sums.{sum_by_push, count_by-le-length, suffix_len-le-length}
-use Rattle.mcy_base.specs.declared.span.Span.{Span}
-use Rattle.vlog_token.specs.Bytes.{is_newline, is_in_line}
-use Rattle.vlog_token.specs.Places.{next_place, place_after, place_moved}
+use Rattle.vlog_token.proofs.Common.{◌≡◌, ℕ, ◌+◌, ◌≤◌, cond, List, [], ◌∷◌, ◌++◌, length, sym, ap, ◌∙◌, arith, append_assoc, append-nil, count_by, suffix_len, prefix_len, cond_both, cond-true}
+use Rattle.vlog_token.proofs.Common.{cond-false, not_from_true, not_from_false, reverse-append, sum_by_push, count_by-le-length, suffix_len-le-length, Span, is_newline, is_in_line, next_place}
+use Rattle.vlog_token.proofs.Common.{place_after, place_moved}
 
 abbrev place : ℕ → ℕ → ℕ → Span
 place file line col = record { file = file; line = line; col = col }

@@ -1,14 +1,7 @@
 -- The pieces that were cut off so far, and one piece more.
-use Rattle.std.proofs.Common.{◌≡◌, ℕ, ◌+◌, ◌^◌, ◌<◌, ◌≤◌, List, [], ◌∷◌, ◌++◌, length, refl, sym, ap, ◌∙◌, subst, arith, append_assoc, append-nil, length-append, inl, inr, IsUtf8}
-use Rattle.std.specs.Prelude.{Option, Some, None}
-use Rattle.mcy_base.specs.declared.span.Span.{Span}
-use Rattle.vlog_token.specs.declared.token.TokenKind.{TokenKind}
-use Rattle.vlog_token.specs.declared.part.Fault.{Fault}
-use Rattle.vlog_token.specs.declared.part.Fault.TheVariants.{BadCharacter, OpenComment, OpenString, BadNumber}
-use Rattle.vlog_token.specs.Places.{place_after, place_moved}
-use Rattle.vlog_token.specs.Pieces.{Piece, Gap, Word, bytes_of, IsBlank, IsGap, IsHere}
-use Rattle.vlog_token.specs.Sources.{AllStand, AreTokensOf, IsRefusal, SeenToken, source_of, tokens_among}
-use Rattle.vlog_token.specs.Reading.{error_of, IsFaultOf, piece_of, tokens_in}
+use Rattle.vlog_token.proofs.Common.{◌≡◌, ℕ, ◌+◌, ◌^◌, ◌<◌, List, [], ◌∷◌, ◌++◌, length, refl, sym, ap, ◌∙◌, subst, arith, append_assoc, append-nil, length-append, inl, inr, IsUtf8, Option, Some}
+use Rattle.vlog_token.proofs.Common.{None, Span, TokenKind, place_after, place_moved, Piece, Gap, Word, bytes_of, IsBlank, IsGap, IsHere, AllStand, SeenToken, source_of, tokens_among, piece_of}
+use Rattle.vlog_token.proofs.Common.{tokens_in}
 use Rattle.vlog_token.proofs.KindLemmas.{fits_begins}
 use Rattle.vlog_token.proofs.PlaceLemmas.{col_within, line_within, moved_place}
 
@@ -41,9 +34,6 @@ pub record Scanned (file : ℕ) (text : List ℕ) (tokens : List SeenToken) (spa
   pub place : span ≡ place_after file (source_of pieces)
   pub utf8 : IsUtf8 rest
 
-pub nothing_scanned : (file : ℕ) (text : List ℕ) → IsUtf8 text → Scanned file text [] (record { file = file; line = 1; col = 1 }) text
-nothing_scanned file text utf8 = record { pieces = []; parts = refl; stand = tt; are = refl; place = refl; utf8 = utf8 }
-
 bytes_are : (kind : Option TokenKind) (bytes : List ℕ) → bytes_of (piece_of kind bytes) ≡ bytes
 bytes_are None bytes = refl
 bytes_are (Some kind) bytes = refl
@@ -71,20 +61,6 @@ one_piece_more file text tokens span rest front after kind scanned parts here ut
       utf8 = utf8;
     }
 
-pub all_scanned : (file : ℕ) (text : List ℕ) (tokens : List SeenToken) (span : Span) (rest : List ℕ) → Scanned file text tokens span rest → rest ≡ [] → AreTokensOf file text tokens
-all_scanned file text tokens span rest scanned end = record {
-  pieces = scanned.pieces;
-  parts = sym (append-nil (source_of scanned.pieces)) ∙ ap (λ r. source_of scanned.pieces ++ r) (sym end) ∙ scanned.parts;
-  stand = subst (AllStand scanned.pieces) end scanned.stand;
-  are = scanned.are;
-}
-
-pub stopped : (file : ℕ) (text : List ℕ) (tokens : List SeenToken) (span : Span) (rest : List ℕ) (fault : Fault) → Scanned file text tokens span rest → IsFaultOf rest fault → IsRefusal file text (error_of fault span)
-stopped file text tokens span rest BadCharacter scanned h = record { pieces = scanned.pieces; rest = rest; parts = scanned.parts; stand = scanned.stand; place = scanned.place; fault = h }
-stopped file text tokens span rest OpenComment scanned h = record { pieces = scanned.pieces; rest = rest; parts = scanned.parts; stand = scanned.stand; place = scanned.place; fault = h }
-stopped file text tokens span rest OpenString scanned h = record { pieces = scanned.pieces; rest = rest; parts = scanned.parts; stand = scanned.stand; place = scanned.place; fault = h }
-stopped file text tokens span rest BadNumber scanned h = record { pieces = scanned.pieces; rest = rest; parts = scanned.parts; stand = scanned.stand; place = scanned.place; fault = h }
-
 -- a piece has a byte
 blank_some : (text : List ℕ) → IsBlank text → 0 < length text
 blank_some [] h = absurd h
@@ -111,7 +87,3 @@ line_fits file text tokens span rest front after short scanned parts =
     let source = source_of scanned.pieces in
     let line : span.line ≡ (place_after file source).line = ap (λ (s : Span). s.line) scanned.place in
     omega (arith, short, line, line_within file source, ap length scanned.parts, length-append source rest, ap length parts, length-append front after)
-
-pub column_some : (file : ℕ) (text : List ℕ) (tokens : List SeenToken) (span : Span) (rest : List ℕ) → Scanned file text tokens span rest → 1 ≤ span.col
-column_some file text tokens span rest scanned =
-    let col : span.col ≡ (place_after file (source_of scanned.pieces)).col = ap (λ (s : Span). s.col) scanned.place in omega (arith, col)

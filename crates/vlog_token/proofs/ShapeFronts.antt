@@ -1,14 +1,8 @@
 -- The longest shape of a number at the front.
-use Rattle.std.proofs.Common.{◌≡◌, ℕ, suc, ◌+◌, ◌<◌, ◌≤◌, true, cond, ◌||◌, ◌⊎◌, List, [], ◌∷◌, ◌++◌, length, take, drop, get_or, refl, sym, ap, ◌∙◌, subst, arith, ⊎_elim, inl, inr, append_assoc, take-append-drop, length-append, length-take-le, append-nil}
-use Rattle.std.specs.Prelude.{Option, Some, None, slice_index, ◌==◌}
-use Rattle.std.specs.List.{prefix_len}
-use Rattle.std.specs.Char.{is_ascii_digit}
-use Rattle.std.proofs.lemmas.Bool.{cond-true, cond_both, or_cases, or_left, eqb-true, eqb-false}
-use Rattle.std.proofs.lemmas.List.{drop_at}
-use Rattle.std.proofs.lemmas.List.Sums.{prefix_len-le-length}
-use Rattle.vlog_token.specs.Bytes.{AllAre, is_decimal_part, is_digit_part, is_sign, radix_of}
-use Rattle.vlog_token.specs.Shapes.{IsDigits, IsLettered, IsBase, IsShape}
-use Rattle.vlog_token.specs.Reading.{IsLongestFront, length_in_base, letter_length, base_length, length_behind_size, shape_length}
+use Rattle.vlog_token.proofs.Common.{◌≡◌, ℕ, suc, ◌+◌, ◌<◌, ◌≤◌, true, cond, ◌||◌, ◌⊎◌, List, [], ◌∷◌, ◌++◌, length, take, drop, get_or, refl, sym, ap, ◌∙◌, subst, arith, ⊎_elim, inl, inr}
+use Rattle.vlog_token.proofs.Common.{append_assoc, take-append-drop, length-append, length-take-le, append-nil, Option, Some, None, slice_index, ◌==◌, prefix_len, is_ascii_digit, cond-true, cond_both}
+use Rattle.vlog_token.proofs.Common.{or_cases, or_left, eqb-true, eqb-false, drop_at, prefix_len-le-length, AllAre, is_decimal_part, is_digit_part, is_sign, radix_of, IsDigits, IsLettered, IsBase}
+use Rattle.vlog_token.proofs.Common.{IsShape, IsLongestFront, length_in_base, letter_length, base_length, length_behind_size, shape_length}
 use Rattle.vlog_token.proofs.Runs.{run_fits, run_longest, run_covers, run_length, one_more}
 
 letter_fits : (c : ℕ) (cs : List ℕ) (o : Option ℕ) → radix_of c ≡ o → IsLettered (take (length_in_base cs o) (c ∷ cs))

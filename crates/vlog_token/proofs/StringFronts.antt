@@ -1,11 +1,7 @@
 -- Where a string ends.
-use Rattle.std.proofs.Common.{◌≡◌, ℕ, suc, ◌+◌, ◌≤◌, Bool, true, false, cond, not, ◌||◌, List, [], ◌∷◌, ◌++◌, length, take, refl, sym, ap, ◌∙◌, subst, arith, append_assoc}
-use Rattle.std.specs.Prelude.{Option, Some, None, ◌==◌, option_map}
-use Rattle.std.specs.List.{AllByRecursion, concat}
-use Rattle.std.proofs.lemmas.Bool.{cond-true, cond-false, cond_both, or_parts, or_from, eqb-true, not_from_false}
-use Rattle.vlog_token.specs.Bytes.{is_plain, is_escape}
-use Rattle.vlog_token.specs.Kinds.{IsQuoted, IsStringItem}
-use Rattle.vlog_token.specs.Reading.{FindsFront, string_end}
+use Rattle.vlog_token.proofs.Common.{◌≡◌, ℕ, suc, ◌+◌, ◌≤◌, Bool, true, false, cond, not, ◌||◌, List, [], ◌∷◌, ◌++◌, length, take, refl, sym, ap, ◌∙◌, subst, arith, append_assoc, Option, Some, None}
+use Rattle.vlog_token.proofs.Common.{◌==◌, option_map, AllByRecursion, concat, cond-true, cond-false, cond_both, or_parts, or_from, eqb-true, not_from_false, is_plain, is_escape, IsQuoted}
+use Rattle.vlog_token.proofs.Common.{IsStringItem, FindsFront, string_end}
 use Rattle.vlog_token.proofs.Runs.{one_more}
 
 pub not_is_true : (b : Bool) → not b ≡ true → b ≡ false

@@ -1,10 +1,6 @@
 -- The bytes of a string's items.
-use Rattle.std.proofs.Common.{◌≡◌, ℕ, true, false, cond, ◌||◌, List, [], ◌∷◌, ◌++◌, map, drop, refl, ap, ◌∙◌}
-use Rattle.std.specs.Prelude.{◌==◌, IfOk, Result, Ok, Err}
-use Rattle.std.specs.List.{AllByRecursion, concat}
-use Rattle.std.proofs.lemmas.Bool.{cond-false, or_parts}
-use Rattle.vlog_token.specs.Kinds.{IsStringItem}
-use Rattle.vlog_token.specs.Names.{escape_byte, IsStringValue, item_byte, unescaped}
+use Rattle.vlog_token.proofs.Common.{◌≡◌, ℕ, true, false, cond, ◌||◌, List, [], ◌∷◌, ◌++◌, map, drop, refl, ap, ◌∙◌, ◌==◌, AllByRecursion, concat, cond-false, or_parts, IsStringItem, escape_byte}
+use Rattle.vlog_token.proofs.Common.{IsStringValue, item_byte, unescaped}
 use Rattle.vlog_token.proofs.StringFronts.{not_is_true}
 
 unescaped_items : (items : List (List ℕ)) → AllByRecursion IsStringItem items → unescaped false (concat items ++ 34 ∷ []) ≡ map item_byte items
@@ -24,7 +20,3 @@ unescaped_items ((c ∷ e ∷ f ∷ fs) ∷ items) h = absurd h.0
 
 pub string_value_of : (text bytes : List ℕ) → bytes ≡ unescaped false (drop 1 text) → IsStringValue text bytes
 string_value_of text bytes is items are e = is ∙ ap (λ t. unescaped false (drop 1 t)) e ∙ unescaped_items items are
-
-pub if_ok_also : {T E : Type 0} (r : Result T E) (P Q : T → Type 0) → ((v : T) → P v → Q v) → IfOk r P → IfOk r Q
-if_ok_also (Ok v) P Q also h = also v h
-if_ok_also (Err e) P Q also h = h

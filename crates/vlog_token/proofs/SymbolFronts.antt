@@ -1,10 +1,6 @@
 -- The longest symbol at the front.
-use Rattle.std.proofs.Common.{◌≡◌, ℕ, ◌<◌, ◌≤◌, Bool, true, false, cond, ◌&&◌, List, [], ◌∷◌, ◌++◌, length, get_or, sym, ap, ◌∙◌, arith}
-use Rattle.std.specs.Prelude.{◌==◌, slice_index}
-use Rattle.std.proofs.lemmas.Bool.{cond_both, and_parts, and_from, eqb-true, eq-eqb}
-use Rattle.vlog_token.specs.Bytes.{is_among}
-use Rattle.vlog_token.specs.Symbols.{IsSymbol, doubles, seconds, singles}
-use Rattle.vlog_token.specs.Reading.{IsLongestFront, symbol_length}
+use Rattle.vlog_token.proofs.Common.{◌≡◌, ℕ, ◌<◌, ◌≤◌, Bool, true, false, cond, ◌&&◌, List, [], ◌∷◌, ◌++◌, length, get_or, sym, ap, ◌∙◌, arith, ◌==◌, slice_index, cond_both, and_parts, and_from}
+use Rattle.vlog_token.proofs.Common.{eqb-true, eq-eqb, is_among, IsSymbol, doubles, seconds, singles, IsLongestFront, symbol_length}
 
 -- no symbol of two bytes is at the front, and none of three
 abbrev NoPair : List ℕ → Type 0

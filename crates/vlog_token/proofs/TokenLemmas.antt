@@ -1,12 +1,7 @@
 -- The longest front of the one kind that its first byte allows is the token there.
-use Rattle.std.proofs.Common.{◌≡◌, ℕ, ◌+◌, ◌<◌, ◌≤◌, false, List, [], ◌∷◌, ◌++◌, length, take, drop, refl, sym, ap, ◌∙◌, subst, arith, take-append-drop, length-take-le}
-use Rattle.std.specs.Prelude.{Option, Some, None, option_map, slice_index}
-use Rattle.vlog_token.specs.declared.token.TokenKind.{TokenKind}
-use Rattle.vlog_token.specs.declared.token.TokenKind.TheVariants.{Name, Escaped, System, Directive, Number, String, Symbol}
-use Rattle.vlog_token.specs.Kinds.{Behind, Fits, IsLongest}
-use Rattle.vlog_token.specs.Numbers.{number_of}
-use Rattle.vlog_token.specs.Pieces.{begins_gap, HasValue, IsBadCharacter, IsBadNumber, IsTokenHere, NoneFits}
-use Rattle.vlog_token.specs.Reading.{fault_without, FindsFront, IsBodyOf, IsFaultOf, IsLongestFront, kind_from, LacksValue, NoFront}
+use Rattle.vlog_token.proofs.Common.{◌≡◌, ℕ, ◌+◌, ◌<◌, ◌≤◌, false, List, [], ◌∷◌, ◌++◌, length, take, drop, refl, sym, ap, ◌∙◌, subst, arith, take-append-drop, length-take-le, Option, Some, None}
+use Rattle.vlog_token.proofs.Common.{option_map, slice_index, TokenKind, Name, Escaped, System, Directive, Number, String, Symbol, Behind, Fits, IsLongest, number_of, begins_gap, HasValue}
+use Rattle.vlog_token.proofs.Common.{IsBadCharacter, IsBadNumber, IsTokenHere, NoneFits, fault_without, FindsFront, IsBodyOf, IsFaultOf, IsLongestFront, kind_from, LacksValue, NoFront}
 use Rattle.vlog_token.proofs.Runs.{one_more}
 use Rattle.vlog_token.proofs.KindLemmas.{front_kind, kind_starts, Starts}
 
@@ -103,14 +98,6 @@ lacking System bytes n is front none = absurd none
 lacking Directive bytes n is front none = absurd none
 lacking String bytes n is front none = absurd none
 lacking Symbol bytes n is front none = absurd none
-
-pub no_kind : (bytes : List ℕ) → 0 < length bytes → begins_gap bytes ≡ false → kind_from (slice_index bytes 0) ≡ None → IsBadCharacter bytes
-no_kind bytes some no_gap none = record {
-  some = some;
-  no_gap = no_gap;
-  no_string = λ is. let bad : None ≡ Some String = sym none ∙ ap kind_from is in cc;
-  no_token = λ k text more fits e. let bad : None ≡ Some k = sym none ∙ front_kind k text more bytes fits e in cc;
-}
 
 -- where none of the one kind is, there is none
 none_of_all : (k : TokenKind) (bytes : List ℕ) → kind_from (slice_index bytes 0) ≡ Some k → NoFront (Fits k) bytes → (j : TokenKind) → NoneFits j bytes

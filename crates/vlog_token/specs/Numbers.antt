@@ -33,12 +33,6 @@ x_digit radix c = if is_x c then radix - 1 else 0
 abbrev pub z_digit : ℕ → ℕ → ℕ
 z_digit radix c = if is_z c then radix - 1 else 0
 
--- the same by what is read of each digit
-abbrev pub plane_digit : Plane → ℕ → ℕ → ℕ
-plane_digit Value radix c = value_digit radix c
-plane_digit X radix c = x_digit radix c
-plane_digit Z radix c = z_digit radix c
-
 -- a leftmost digit that is x or z stands in all bits at its left, up to the width
 abbrev pub filled : Bool → ℕ → ℕ
 filled is_such width = if is_such then 2 ^ width - 1 else 0
@@ -101,3 +95,11 @@ number_split size (apostrophe ∷ base) = option_and_then (base_number base) (wi
 -- the number that a text is, if it is one
 abbrev pub number_of : List ℕ → Option NumberMeaning
 number_of text = let size = position_or_len is_apostrophe text in number_split (take size text) (drop size text)
+
+-- For proofs alone.
+
+-- the same by what is read of each digit
+abbrev pub plane_digit : Plane → ℕ → ℕ → ℕ
+plane_digit Value radix c = value_digit radix c
+plane_digit X radix c = x_digit radix c
+plane_digit Z radix c = z_digit radix c

@@ -12,6 +12,8 @@ place_after file before = record {
   col = 1 + suffix_len is_in_line before;
 }
 
+-- For proofs alone.
+
 -- the place one byte on
 abbrev pub next_place : Span → ℕ → Span
 next_place at c =

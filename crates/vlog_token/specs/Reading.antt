@@ -18,6 +18,8 @@ use Rattle.vlog_token.specs.Numbers.{number_of}
 use Rattle.vlog_token.specs.Sources.{SeenToken}
 use Rattle.vlog_token.specs.Pieces.{Piece, Gap, Word, IsHere, IsBadCharacter, IsOpenComment, IsOpenString, IsBadNumber}
 
+-- For proofs alone.
+
 -- the first n bytes are the longest front of such a form
 pub record IsLongestFront (P : List ℕ → Type 0) (bytes : List ℕ) (n : ℕ) : Type 0 where
   pub within : n ≤ length bytes

@@ -1,13 +1,10 @@
 -- Operators with what stands behind them.
-use Rattle.std.proofs.Common.{◌≡◌, ◌<◌, ◌≤◌, List, [], ◌∷◌, length, refl, sym, ap, arith}
+use Rattle.vlog_trees.proofs.Common.{◌≡◌, ◌<◌, ◌≤◌, List, [], ◌∷◌, length, refl, sym, ap, arith, Value, first, rest, chain_of, chained, extended, operated, linked}
 use Rattle.mcy_base.specs.declared.span.Span.{Span}
 use Rattle.vlog_syntax.specs.declared.operator.BinaryOperator.{BinaryOperator}
 use Rattle.vlog_syntax.specs.declared.expr.Expr.{Expr}
 use Rattle.vlog_syntax.specs.declared.expr.Expr.TheVariants as e
 use Rattle.vlog_parts.specs.declared.expression_parts.Link.{Link}
-use Rattle.vlog_parts.specs.declared.value.Value.{Value}
-use Rattle.vlog_parts.specs.Values.{first, rest, chain_of}
-use Rattle.vlog_trees.specs.Expressions.{chained, extended, operated, linked}
 
 pub chained_none : (x : Expr) (ys : List Link) → ys ≡ [] → chained x ys ≡ x
 unfolding chained

@@ -1,16 +1,6 @@
 -- What the steps of a row of trees mean is what the trees mean.
-use Rattle.std.proofs.Common.{◌≡◌, suc, ◌+◌, List, [], ◌∷◌, ◌++◌, length, take, drop, refl, sym, ap, ◌∙◌, append_assoc}
-use Rattle.std.proofs.lemmas.List.{append-nil, take_at, drop_at}
-use Rattle.vlog_token.specs.declared.token.Token.{Token}
-use Rattle.vlog_grammar.specs.declared.step.Token.{Token as Classed}
-use Rattle.vlog_grammar.specs.declared.step.Step.{Step}
-use Rattle.vlog_grammar.specs.declared.table.Symbol.{Symbol}
-use Rattle.vlog_grammar.specs.Grammar.{parts_of}
-use Rattle.vlog_grammar.specs.Trees.{Trees, Nil, Leaf, Node, tokens_of, steps_of, Derives}
-use Rattle.vlog_grammar.specs.Reading.{IsText, start}
-use Rattle.vlog_parts.specs.declared.value.Value.{Value}
-use Rattle.vlog_parts.specs.Values.{first, modules_of}
-use Rattle.vlog_trees.specs.Meaning.{leaf, made, means, modules, run}
+use Rattle.vlog_trees.proofs.Common.{◌≡◌, suc, List, [], ◌∷◌, ◌++◌, length, take, drop, refl, sym, ap, ◌∙◌, append_assoc, append-nil, take_at, drop_at, Token, Classed, Step, Symbol, parts_of, Trees}
+use Rattle.vlog_trees.proofs.Common.{Nil, Leaf, Node, tokens_of, steps_of, Derives, IsText, start, Value, first, modules_of, leaf, made, means, modules, run}
 
 one_each : (ts : List Token) (ss : List Symbol) (f : Trees) (after : List Classed) → Derives ss f after → length (means ts f) ≡ length ss
 one_each ts [] Nil after d = refl

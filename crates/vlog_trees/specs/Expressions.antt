@@ -20,11 +20,11 @@ use Rattle.vlog_parts.specs.declared.expression_parts.SelectEnd.TheVariants as s
 use Rattle.vlog_parts.specs.declared.expression_parts.BraceEnd.{BraceEnd}
 use Rattle.vlog_parts.specs.declared.expression_parts.BraceEnd.TheVariants as be
 use Rattle.vlog_parts.specs.declared.value.Value.{Value}
-use Rattle.vlog_parts.specs.declared.value.Value.TheVariants as y
-use Rattle.vlog_parts.specs.Sorts as v
+use Rattle.vlog_parts.specs.declared.value.Value.TheVariants as v
 use Rattle.vlog_parts.specs.Leaves.{identifier, number}
 use Rattle.vlog_trees.specs.Passed.{made_passed}
-use Rattle.vlog_parts.specs.Values.{first, rest, second, third, fourth, span_of, token_of, identifier_of, expr_of, exprs_of, chain_of, select_of, select_end_of, brace_end_of, left_of, lefts_of}
+use Rattle.vlog_parts.specs.Numbered.{first, rest, second, third, fourth}
+use Rattle.vlog_parts.specs.Values.{span_of, token_of, identifier_of, expr_of, exprs_of, chain_of, select_of, select_end_of, brace_end_of, left_of, lefts_of}
 
 -- operators of one precedence with their right operands, to the left
 unfoldable pub chained : Expr → List Link → Expr
@@ -33,8 +33,8 @@ chained x (o ∷ os) = chained (e.Binary o.span o.operator x o.right) os
 
 -- an operand with a chain behind it, or with the branches of a condition
 unfoldable pub extended : Expr → Value → Expr
-extended x (y.Chain os) = chained x os
-extended x (y.Branches c) = e.Conditional c.span x c.yes c.no
+extended x (v.Chain os) = chained x os
+extended x (v.Branches c) = e.Conditional c.span x c.yes c.no
 extended x _ = x
 
 -- an operand with all that stands behind it, the operators of the highest precedence first

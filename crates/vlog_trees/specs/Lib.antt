@@ -1,3 +1,4 @@
 pub mod Expressions
 pub mod Passed
 pub mod Meaning
+pub mod OfKinds

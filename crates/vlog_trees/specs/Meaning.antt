@@ -12,7 +12,8 @@ use Rattle.vlog_parts.specs.declared.value.Value.{Value}
 use Rattle.vlog_parts.specs.declared.value.Value.TheVariants as v
 use Rattle.vlog_grammar.specs.declared.table.Symbol.{Symbol}
 use Rattle.vlog_trees.specs.Expressions.{made_expression}
-use Rattle.vlog_parts.specs.Values.{first, modules_of}
+use Rattle.vlog_parts.specs.Numbered.{first}
+use Rattle.vlog_parts.specs.Values.{modules_of}
 
 -- a production without parts means nothing
 abbrev pub made_by : List Symbol → Rule → List Value → Value
@@ -37,6 +38,12 @@ means ts Nil = []
 means ts (Leaf t x f) = leaf ts t ∷ means ts f
 means ts (Node r parts f) = made r (means ts parts) ∷ means ts f
 
+-- the modules of a text
+abbrev pub modules : List Token → Trees → List Module
+modules ts text = modules_of (first (means ts text))
+
+-- For proofs alone.
+
 -- the same from the steps, the last one first
 abbrev pub run : List Token → List Step → List Value
 run ts [] = []
@@ -44,7 +51,3 @@ run ts (Take t ∷ ss) = leaf ts t ∷ run ts ss
 run ts (Begin r ∷ ss) =
     let arity = length (parts_of r) in
     made r (take arity (run ts ss)) ∷ drop arity (run ts ss)
-
--- the modules of a text
-abbrev pub modules : List Token → Trees → List Module
-modules ts text = modules_of (first (means ts text))

@@ -3,7 +3,7 @@ use Rattle.std.specs.Prelude.{List}
 use Rattle.vlog_grammar.specs.declared.rule.Rule.{Rule}
 use Rattle.vlog_grammar.specs.declared.rule.Rule.TheVariants as r
 use Rattle.vlog_parts.specs.declared.value.Value.{Value}
-use Rattle.vlog_parts.specs.Values.{first, second, third}
+use Rattle.vlog_parts.specs.Numbered.{first, second, third}
 use Rattle.vlog_statements.specs.Statements.{made_statement}
 
 unfoldable pub made_passed : Rule → List Value → Value

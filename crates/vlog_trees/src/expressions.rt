@@ -4,8 +4,10 @@
 ghost use Rattle.std.specs.Prelude.{◌≡◌, ◌∷◌, true, IfOk};
 ghost use Rattle.vlog_syntax.specs.declared.expr.Expr.TheVariants as e;
 ghost use Rattle.vlog_grammar.specs.declared.rule.Rule.TheVariants as r;
-ghost use Rattle.vlog_parts.specs.Sorts as v;
-ghost use Rattle.vlog_parts.specs.Values.{first, rest, second, third, span_of, token_of, expr_of, exprs_of, is_expr};
+ghost use Rattle.vlog_parts.specs.declared.value.Value.TheVariants as v;
+ghost use Rattle.vlog_parts.specs.Sorts.{is_expr};
+ghost use Rattle.vlog_parts.specs.Numbered.{first, rest, second, third};
+ghost use Rattle.vlog_parts.specs.Values.{span_of, token_of, expr_of, exprs_of};
 ghost use Rattle.vlog_parts.specs.Leaves.{identifier, number};
 ghost use Rattle.vlog_trees.specs.Expressions as spec;
 ghost use Rattle.vlog_parts.specs.Kinds.{sorted};
@@ -18,8 +20,8 @@ use mcy_base::Span;
 use std::alloc::{AllocError, Global};
 use vlog_grammar::Rule;
 use vlog_parts::{
-    BraceEnd, Branches, ExpressionPart, Link, Parts, Select, SelectEnd, Stack, Value,
-    boxed_branches, boxed_expr, boxed_part, identifier, number,
+    BraceEnd, Branches, Link, Parts, Select, SelectEnd, Stack, Value, boxed_branches, boxed_expr,
+    boxed_left, identifier, number,
 };
 use vlog_statements::make_statement;
 use vlog_syntax::{BinaryOperator, Boxed, Expr, Identifier, UnaryOperator};
@@ -240,10 +242,7 @@ fn replication<'a>(alloc: Global, parts: &mut Parts<'a>) -> Result<Value<'a>, Al
 {
     parts.skip();
     let exprs = parts.some_exprs(alloc)?;
-    boxed_part(
-        alloc,
-        ExpressionPart::BraceEnd(BraceEnd::Replication(exprs)),
-    )
+    Ok(Value::BraceEnd(BraceEnd::Replication(exprs)))
 }
 
 /// A number.
@@ -303,16 +302,13 @@ pub fn make_expression<'a>(
         Rule::SystemVerilogIdentifier => name(alloc, parts),
         Rule::SomeExpression => Ok(parts.next()),
         Rule::NextExpression => next_expression(alloc, parts),
-        Rule::LeftName => boxed_part(alloc, ExpressionPart::LeftSide(left_name(parts))),
+        Rule::LeftName => boxed_left(alloc, left_name(parts)),
         Rule::LeftConcatenation => left_concatenation(alloc, parts),
         Rule::NextLeftSide => next_left_side(alloc, parts),
-        Rule::SomeSelect => boxed_part(alloc, ExpressionPart::Select(some_select(parts))),
-        Rule::BitSelect => boxed_part(alloc, ExpressionPart::SelectEnd(SelectEnd::Bit)),
-        Rule::PartSelect => boxed_part(alloc, ExpressionPart::SelectEnd(part_select(parts))),
-        Rule::IndexedPartSelect => boxed_part(
-            alloc,
-            ExpressionPart::SelectEnd(indexed_part_select(parts)),
-        ),
+        Rule::SomeSelect => Ok(Value::Select(some_select(parts))),
+        Rule::BitSelect => Ok(Value::SelectEnd(SelectEnd::Bit)),
+        Rule::PartSelect => Ok(Value::SelectEnd(part_select(parts))),
+        Rule::IndexedPartSelect => Ok(Value::SelectEnd(indexed_part_select(parts))),
         Rule::OperandWithChains => operated(alloc, parts),
         Rule::Power => link(alloc, BinaryOperator::Power, parts),
         Rule::Times => link(alloc, BinaryOperator::Multiply, parts),
@@ -359,12 +355,7 @@ pub fn make_expression<'a>(
         Rule::Parenthesized => boxed_expr(alloc, parenthesized(parts)),
         Rule::Braces => braces(alloc, parts),
         Rule::SomeFunctionArguments => next_expression(alloc, parts),
-        Rule::Concatenation => {
-            boxed_part(
-                alloc,
-                ExpressionPart::BraceEnd(BraceEnd::Concatenation(parts.exprs(alloc))),
-            )
-        }
+        Rule::Concatenation => { Ok(Value::BraceEnd(BraceEnd::Concatenation(parts.exprs(alloc)))) }
         Rule::Replication => replication(alloc, parts),
         _ => make_passed(alloc, rule, parts),
     }

@@ -3,13 +3,13 @@
 
 ghost use Rattle.std.specs.Prelude.{◌≡◌, true, IfOk};
 ghost use Rattle.vlog_grammar.specs.declared.rule.Rule.TheVariants as r;
-ghost use Rattle.vlog_parts.specs.Sorts as v;
+ghost use Rattle.vlog_parts.specs.declared.value.Value.TheVariants as v;
 ghost use Rattle.vlog_trees.specs.Expressions as spec;
 ghost use Rattle.vlog_parts.specs.Kinds.{sorted};
 
 use mcy_base::Span;
 use std::alloc::{AllocError, Global};
-use vlog_parts::{ExpressionPart, Parts, Select, SelectEnd, Value, boxed_part};
+use vlog_parts::{Parts, Select, SelectEnd, Value, boxed_left};
 use vlog_syntax::{Boxed, Expr, Identifier, LeftSide};
 
 /// A select, from its first expression and its end.
@@ -90,10 +90,7 @@ pub fn left_concatenation<'a>(alloc: Global, parts: &mut Parts<'a>) -> Result<Va
 {
     let span = parts.span();
     let lefts = parts.some_lefts(alloc)?;
-    boxed_part(
-        alloc,
-        ExpressionPart::LeftSide(LeftSide::Concatenation(span, lefts.into_listed())),
-    )
+    boxed_left(alloc, LeftSide::Concatenation(span, lefts.into_listed()))
 }
 
 /// A left side behind a `,`, and those behind it.
@@ -104,5 +101,5 @@ pub fn next_left_side<'a>(alloc: Global, parts: &mut Parts<'a>) -> Result<Value<
 {
     parts.skip();
     let lefts = parts.some_lefts(alloc)?;
-    boxed_part(alloc, ExpressionPart::LeftSides(lefts))
+    Ok(Value::LeftSides(lefts))
 }

@@ -1,4 +1,4 @@
-use Rattle.std.proofs.Common.{◌≡◌, take}
+use Rattle.campaign_baseline.proofs.Common.{◌≡◌, take}
 use Rattle.campaign_run.specs.Baselines as specs
 use Rattle.campaign_baseline.proofs.auto.greatest.Given as goal
 

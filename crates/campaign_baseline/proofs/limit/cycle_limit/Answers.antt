@@ -1,6 +1,4 @@
-use Rattle.std.proofs.Common.{◌∙◌, sym, subst}
-use Rattle.std.proofs.lemmas.Bool.{false≢true}
-use Rattle.campaign_run.specs.Baselines.{AllPass}
+use Rattle.campaign_baseline.proofs.Common.{◌∙◌, sym, subst, false≢true, AllPass}
 use Rattle.campaign_baseline.proofs.Limiting.{fails_by, limit_by, limit_plainly}
 use Rattle.campaign_baseline.proofs.limit.cycle_limit.Goals as goal
 

@@ -1,8 +1,4 @@
-use Rattle.std.proofs.Common.{◌≡◌, slice_get, Some}
-use Rattle.campaign_plan.specs.declared.prepared.Prepared.{Prepared}
-use Rattle.campaign_plan.specs.declared.trial.Trial.TheVariants.{Equality, Simulation}
-use Rattle.campaign_plan.proofs.Fitted.{plan_fits, test_at}
-use Rattle.campaign_run.specs.Baselines.{IsBaseline}
+use Rattle.campaign_baseline.proofs.Common.{◌≡◌, slice_get, Some, Prepared, Equality, Simulation, plan_fits, test_at, IsBaseline}
 use Rattle.campaign_baseline.proofs.Listing.{baseline_is, list_more, list_same}
 use Rattle.campaign_baseline.proofs.simulating.add_baseline.Goals as goal
 

@@ -1,5 +1,4 @@
-use Rattle.std.proofs.Common.{ap, length, arith}
-use Rattle.campaign_plan.proofs.Fitted.{plan_trials}
+use Rattle.campaign_baseline.proofs.Common.{ap, length, arith, plan_trials}
 use Rattle.campaign_plan.proofs.Plans.{plan_fit}
 use Rattle.campaign_baseline.proofs.simulating.baselines_under.Goals as goal
 

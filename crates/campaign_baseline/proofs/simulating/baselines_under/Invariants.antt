@@ -1,4 +1,4 @@
-use Rattle.campaign_run.specs.Baselines.{AreBaselines}
+use Rattle.campaign_baseline.proofs.Common.{AreBaselines}
 use Rattle.campaign_baseline.proofs.simulating.baselines_under.Given as goal
 
 abbrev pub invariant-loop-test : goal.invariant-loop-test

@@ -1,8 +1,4 @@
-use Rattle.std.proofs.Common.{◌≡◌, ◌∙◌, ◌<◌, ◌≤◌, ◌+◌, ℕ, ap, subst, refl, arith}
-use Rattle.std.specs.Prelude.{max}
-use Rattle.tb_machine.specs.Simulations.{phases_of}
-use Rattle.tb_runner.specs.Jobs.{Job}
-use Rattle.tb_runner.specs.Simulated.{GoesOn, Simulated}
+use Rattle.campaign_baseline.proofs.Common.{◌≡◌, ◌∙◌, ◌<◌, ◌≤◌, ◌+◌, ℕ, ap, subst, refl, arith, max, phases_of, Job, GoesOn, Simulated}
 use Rattle.campaign_baseline.proofs.Cycles.{at_next, few_more, goes_on, one_more, says_word, still_same, takes_cycles}
 use Rattle.campaign_baseline.proofs.simulating.ended.Goals as goal
 

@@ -1,8 +1,4 @@
-use Rattle.std.proofs.Common.{◌≡◌, ◌≢◌, ◌-◌, ◌≤◌, false}
-use Rattle.std.specs.Prelude.{max}
-use Rattle.tb_machine.specs.Simulations.{phases_of}
-use Rattle.tb_runner.specs.Jobs.{IsSameJob}
-use Rattle.tb_runner.specs.Simulated.{GoesOn}
+use Rattle.campaign_baseline.proofs.Common.{◌≡◌, ◌≢◌, ◌-◌, ◌≤◌, false, max, phases_of, IsSameJob, GoesOn}
 use Rattle.campaign_baseline.proofs.simulating.ended.Given as goal
 
 abbrev pub invariant-cycles : goal.invariant-cycles

@@ -1,4 +1,4 @@
-use Rattle.std.specs.Prelude.{string_bytes}
+use Rattle.campaign_baseline.proofs.Common.{string_bytes}
 use Rattle.std.proofs.lemmas.Result.{on_ok_weaker}
 use Rattle.campaign_baseline.proofs.Failing.{failing_more, passing_text}
 use Rattle.campaign_baseline.proofs.told.add_failing.Goals as goal

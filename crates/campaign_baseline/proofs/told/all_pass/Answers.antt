@@ -1,8 +1,4 @@
-use Rattle.std.proofs.Common.{◌≡◌, rules}
-use Rattle.std.specs.Prelude.{IsTrue}
-use Rattle.std.proofs.lemmas.List.Elements.{All-more}
-use Rattle.tb_turns.specs.declared.verdict.SimVerdict.TheVariants.{Pass}
-use Rattle.campaign_run.specs.declared.baseline.Baseline.{Baseline}
+use Rattle.campaign_baseline.proofs.Common.{◌≡◌, rules, IsTrue, All-more, Pass, Baseline}
 use Rattle.campaign_baseline.proofs.told.all_pass.Goals as goal
 
 pub loop-baseline-preserved : goal.loop-baseline-preserved

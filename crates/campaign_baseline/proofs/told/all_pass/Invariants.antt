@@ -1,5 +1,4 @@
-use Rattle.std.proofs.Common.{take}
-use Rattle.campaign_run.specs.Baselines.{AllPass}
+use Rattle.campaign_baseline.proofs.Common.{take, AllPass}
 use Rattle.campaign_baseline.proofs.told.all_pass.Given as goal
 
 abbrev pub invariant-loop-baseline : goal.invariant-loop-baseline

@@ -1,5 +1,4 @@
-use Rattle.std.proofs.Common.{◌≡◌, ◌++◌, drop}
-use Rattle.std.specs.Prelude.{string_bytes}
+use Rattle.campaign_baseline.proofs.Common.{◌≡◌, ◌++◌, drop, string_bytes}
 use Rattle.campaign_baseline.specs.Lines as lines
 use Rattle.campaign_baseline.proofs.told.baseline_text.Given as goal
 

@@ -1,4 +1,4 @@
-use Rattle.std.proofs.Common.{◌≡◌, take}
+use Rattle.campaign_choice.proofs.Common.{◌≡◌, take}
 use Rattle.campaign_choice.proofs.campaign.copy_files.Given as goal
 
 abbrev pub invariant-loop-file : goal.invariant-loop-file

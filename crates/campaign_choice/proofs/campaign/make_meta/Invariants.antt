@@ -1,5 +1,4 @@
-use Rattle.std.proofs.Common.{◌≡◌, ◌∷◌, codes, map, take}
-use Rattle.campaign_choice.specs.Campaigns.{file_item}
+use Rattle.campaign_choice.proofs.Common.{◌≡◌, ◌∷◌, codes, map, take, file_item}
 use Rattle.campaign_choice.proofs.campaign.make_meta.Given as goal
 
 abbrev pub invariant-loop-file : goal.invariant-loop-file

@@ -1,11 +1,5 @@
-use Rattle.std.proofs.Common.{◌≡◌, ◌∙◌, Bool, List, ap, subst, sym}
-use Rattle.std.specs.List.{All}
-use Rattle.netlist_core.specs.declared.raw.RawNetlist.{RawNetlist}
-use Rattle.project_file.specs.declared.project.Project.{Project}
-use Rattle.mutation_sites.specs.declared.site.Site.{Site}
+use Rattle.campaign_choice.proofs.Common.{◌≡◌, ◌∙◌, Bool, List, ap, subst, sym, All, RawNetlist, Project, Site, campaign_of, all_sites, picked_sites}
 use Rattle.mutation_sites.specs.Mutants.{IsSite}
-use Rattle.campaign_choice.specs.Campaigns.{campaign_of}
-use Rattle.campaign_choice.specs.Mutations.{all_sites, picked_sites}
 use Rattle.campaign_choice.proofs.Chosen.{All-picked}
 use Rattle.campaign_choice.proofs.choice.choose.Goals as goal
 

@@ -1,8 +1,5 @@
-use Rattle.std.proofs.Common.{◌≡◌, List, [], ◌++◌, slice_get, Option, None, Some, sym}
-use Rattle.std.specs.List.{cons_option}
+use Rattle.campaign_choice.proofs.Common.{◌≡◌, List, [], ◌++◌, slice_get, Option, None, Some, sym, cons_option, slice_get_past, Site}
 use Rattle.std.proofs.lemmas.List.{append-nil}
-use Rattle.std.proofs.lemmas.Option.{slice_get_past}
-use Rattle.mutation_sites.specs.declared.site.Site.{Site}
 use Rattle.campaign_choice.proofs.mutations.add_numbered.Goals as goal
 
 -- where there is no such site the list stays

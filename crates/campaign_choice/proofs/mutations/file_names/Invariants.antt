@@ -1,5 +1,4 @@
-use Rattle.std.proofs.Common.{◌≡◌, take}
-use Rattle.campaign_choice.specs.Campaigns.{names_of}
+use Rattle.campaign_choice.proofs.Common.{◌≡◌, take, names_of}
 use Rattle.campaign_choice.proofs.mutations.file_names.Given as goal
 
 abbrev pub invariant-loop-file : goal.invariant-loop-file

@@ -1,8 +1,4 @@
-use Rattle.std.proofs.Common.{ℕ, ◌<◌, List, [], ◌∷◌, ◌++◌, length, get_or, slice_get, take, sym, ap, ◌∙◌}
-use Rattle.std.specs.List.{filter_map}
-use Rattle.std.proofs.lemmas.List.{take_more}
-use Rattle.std.proofs.lemmas.List.Elements.{filter_map-append}
-use Rattle.mutation_sites.specs.declared.site.Site.{Site}
+use Rattle.campaign_choice.proofs.Common.{ℕ, ◌<◌, List, [], ◌∷◌, ◌++◌, length, get_or, slice_get, take, sym, ap, ◌∙◌, filter_map, take_more, filter_map-append, Site}
 use Rattle.campaign_choice.proofs.mutations.numbered.Goals as goal
 
 pub loop-number-preserved : goal.loop-number-preserved

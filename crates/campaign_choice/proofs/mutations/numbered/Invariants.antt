@@ -1,5 +1,4 @@
-use Rattle.std.proofs.Common.{◌≡◌, slice_get, take}
-use Rattle.std.specs.List.{filter_map}
+use Rattle.campaign_choice.proofs.Common.{◌≡◌, slice_get, take, filter_map}
 use Rattle.campaign_choice.proofs.mutations.numbered.Given as goal
 
 abbrev pub invariant-loop-number : goal.invariant-loop-number

@@ -1,5 +1,4 @@
-use Rattle.std.proofs.Common.{rules}
-use Rattle.campaign_choice.specs.Mutations.{picked_sites}
+use Rattle.campaign_choice.proofs.Common.{rules, picked_sites}
 use Rattle.campaign_choice.proofs.mutations.picked_sites.Goals as goal
 
 pub returns : goal.returns

@@ -1,5 +1,4 @@
-use Rattle.std.proofs.Common.{◌≡◌, map, take}
-use Rattle.campaign_choice.specs.Mutations.{site_line}
+use Rattle.campaign_choice.proofs.Common.{◌≡◌, map, take, site_line}
 use Rattle.campaign_choice.proofs.mutations.site_lines.Given as goal
 
 abbrev pub invariant-loop-site : goal.invariant-loop-site

@@ -1,6 +1,4 @@
-use Rattle.std.proofs.Common.{◌≡◌, map, take}
-use Rattle.mutation_sites.specs.SiteTexts.{site_text}
-use Rattle.campaign_choice.specs.Campaigns.{names_of}
+use Rattle.campaign_choice.proofs.Common.{◌≡◌, map, take, site_text, names_of}
 use Rattle.campaign_choice.proofs.mutations.site_texts.Given as goal
 
 abbrev pub invariant-loop-site : goal.invariant-loop-site

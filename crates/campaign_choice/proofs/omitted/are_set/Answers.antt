@@ -1,6 +1,4 @@
-use Rattle.std.proofs.Common.{Bool, rules, tests}
-use Rattle.std.proofs.lemmas.Iterator.{YieldsList-from_slice}
-use Rattle.std.proofs.lemmas.Iterator.Search.{all_from_yields_List}
+use Rattle.campaign_choice.proofs.Common.{Bool, rules, tests, YieldsList-from_slice, all_from_yields_List}
 use Rattle.campaign_choice.proofs.omitted.are_set.Goals as goal
 
 pub returns : goal.returns

@@ -1,7 +1,5 @@
-use Rattle.std.proofs.Common.{◌≡◌, Bor, List, [], ◌∷◌, ℕ, zero, suc, Some, None, length, slice_get, map, refl, sym, ap}
+use Rattle.campaign_choice.proofs.Common.{◌≡◌, Bor, List, [], ◌∷◌, ℕ, zero, suc, Some, None, length, slice_get, map, refl, sym, ap, slice_get_past, slice_get_read, file_at}
 use Rattle.std.proofs.lemmas.Bool.{ltb-true}
-use Rattle.std.proofs.lemmas.Option.{slice_get_past, slice_get_read}
-use Rattle.campaign_choice.specs.Omitted.{file_at}
 use Rattle.campaign_choice.proofs.omitted.file_at.Goals as goal
 
 abbrev texts : List (Bor (List ℕ)) → List (List ℕ)

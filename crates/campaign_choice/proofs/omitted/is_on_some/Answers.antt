@@ -1,8 +1,5 @@
-use Rattle.std.proofs.Common.{rules, tests}
-use Rattle.std.proofs.lemmas.Iterator.{YieldsList-from_slice}
-use Rattle.std.proofs.lemmas.Iterator.Search.{any_from_yields_List}
+use Rattle.campaign_choice.proofs.Common.{rules, tests, YieldsList-from_slice, any_from_yields_List, is_on}
 use Rattle.project_file.specs.declared.project.LineRange.{LineRange}
-use Rattle.campaign_choice.specs.Omitted.{is_on}
 use Rattle.campaign_choice.proofs.omitted.is_on_some.Goals as goal
 
 pub returns : goal.returns

@@ -1,5 +1,4 @@
-use Rattle.std.proofs.Common.{◌≡◌, map, take}
-use Rattle.campaign_choice.specs.Omitted.{is_omitted}
+use Rattle.campaign_choice.proofs.Common.{◌≡◌, map, take, is_omitted}
 use Rattle.campaign_choice.proofs.omitted.omitted_sites.Given as goal
 
 abbrev pub invariant-loop-site : goal.invariant-loop-site

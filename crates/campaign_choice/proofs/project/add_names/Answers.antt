@@ -1,4 +1,4 @@
-use Rattle.std.proofs.Common.{Bor, List, ℕ, map, rules}
+use Rattle.campaign_choice.proofs.Common.{Bor, List, ℕ, map, rules}
 use Rattle.campaign_choice.proofs.Naming.{names_step}
 use Rattle.campaign_choice.proofs.project.add_names.Goals as goal
 

@@ -1,5 +1,4 @@
-use Rattle.std.proofs.Common.{◌≡◌, map, take}
-use Rattle.project_lines.specs.Paths.{with_names}
+use Rattle.campaign_choice.proofs.Common.{◌≡◌, map, take, with_names}
 use Rattle.campaign_choice.proofs.project.add_names.Given as goal
 
 abbrev pub invariant-loop-name : goal.invariant-loop-name

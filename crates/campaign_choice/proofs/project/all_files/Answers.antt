@@ -1,6 +1,4 @@
-use Rattle.std.proofs.Common.{◌≡◌, ◌<◌, Bor, List, ℕ, length, get_or, map, rules, subst}
-use Rattle.project_file.specs.declared.project.TestPlan.{TestPlan}
-use Rattle.project_file.specs.Projects.{design_files}
+use Rattle.campaign_choice.proofs.Common.{◌≡◌, ◌<◌, Bor, List, ℕ, length, get_or, map, rules, subst, TestPlan, design_files}
 use Rattle.campaign_choice.proofs.Naming.{tests_step}
 use Rattle.campaign_choice.proofs.project.all_files.Goals as goal
 

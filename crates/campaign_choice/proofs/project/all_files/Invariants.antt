@@ -1,8 +1,4 @@
-use Rattle.std.proofs.Common.{◌≡◌, map, take}
-use Rattle.std.specs.List.{flat_map}
-use Rattle.project_lines.specs.Paths.{with_names}
-use Rattle.project_file.specs.Projects.{design_files}
-use Rattle.project_limits.specs.Files.{kind_files}
+use Rattle.campaign_choice.proofs.Common.{◌≡◌, map, take, flat_map, with_names, design_files, kind_files}
 use Rattle.campaign_choice.proofs.project.all_files.Given as goal
 
 abbrev pub invariant-loop-test : goal.invariant-loop-test

@@ -1,5 +1,4 @@
-use Rattle.std.proofs.Common.{◌≡◌, map, take}
-use Rattle.campaign_choice.specs.Projects.{kind_of}
+use Rattle.campaign_choice.proofs.Common.{◌≡◌, map, take, kind_of}
 use Rattle.campaign_choice.proofs.project.test_kinds.Given as goal
 
 abbrev pub invariant-loop-test : goal.invariant-loop-test

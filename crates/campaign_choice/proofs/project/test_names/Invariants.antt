@@ -1,4 +1,4 @@
-use Rattle.std.proofs.Common.{◌≡◌, map, take}
+use Rattle.campaign_choice.proofs.Common.{◌≡◌, map, take}
 use Rattle.campaign_choice.proofs.project.test_names.Given as goal
 
 abbrev pub invariant-loop-test : goal.invariant-loop-test

@@ -1,5 +1,4 @@
-use Rattle.std.proofs.Common.{arith}
-use Rattle.result_book.proofs.Wanting.{want_follows}
+use Rattle.campaign_core.proofs.Common.{arith, want_follows}
 use Rattle.campaign_core.proofs.Again.{wanted_again}
 use Rattle.campaign_core.proofs.Orderly.{waits_some}
 use Rattle.campaign_core.proofs.laws.given_up_pairs_start_again.Goals as goal

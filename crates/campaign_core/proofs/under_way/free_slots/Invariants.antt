@@ -1,4 +1,4 @@
-use Rattle.std.proofs.Common.{◌≡◌, None}
+use Rattle.campaign_core.proofs.Common.{◌≡◌, None}
 use Rattle.std.specs.Prelude.{replicate}
 use Rattle.campaign_core.proofs.under_way.free_slots.Given as goal
 

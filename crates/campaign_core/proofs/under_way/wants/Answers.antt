@@ -1,7 +1,4 @@
-use Rattle.std.proofs.Common.{◌∙◌, ◌∷◌, ◌++◌, ap, List, Option, []}
-use Rattle.result_book.specs.declared.goal.Want.{Want}
-use Rattle.result_book.specs.Goals.{wanted}
-use Rattle.result_book.specs.Scripts.{each_from}
+use Rattle.campaign_core.proofs.Common.{◌∙◌, ◌∷◌, ◌++◌, ap, List, Option, [], Want, wanted, each_from}
 use Rattle.campaign_core.proofs.Begins.{each_next}
 use Rattle.campaign_core.proofs.under_way.wants.Goals as goal
 

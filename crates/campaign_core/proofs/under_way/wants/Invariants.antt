@@ -1,6 +1,4 @@
-use Rattle.std.proofs.Common.{◌≡◌}
-use Rattle.result_book.specs.Goals.{wanted}
-use Rattle.result_book.specs.Scripts.{each_from}
+use Rattle.campaign_core.proofs.Common.{◌≡◌, wanted, each_from}
 use Rattle.campaign_core.proofs.under_way.wants.Given as goal
 
 abbrev pub invariant-loop-mutation : goal.invariant-loop-mutation

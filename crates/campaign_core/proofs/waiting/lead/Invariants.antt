@@ -1,4 +1,4 @@
-use Rattle.campaign_core.specs.Waits.{NoneWaits}
+use Rattle.campaign_core.proofs.Common.{NoneWaits}
 use Rattle.campaign_core.proofs.waiting.lead.Given as goal
 
 abbrev pub invariant-loop-mutation : goal.invariant-loop-mutation

@@ -1,11 +1,7 @@
-use Rattle.std.proofs.Common.{◌≡◌, ◌∙◌, arith, Bool, List, ap, length, refl, subst, sym}
-use Rattle.std.specs.List.{All}
-use Rattle.netlist_core.specs.declared.raw.RawNetlist.{RawNetlist}
-use Rattle.project_file.specs.declared.project.Project.{Project}
+use Rattle.campaign_reading.proofs.Common.{◌≡◌, ◌∙◌, arith, Bool, List, ap, length, refl, subst, sym, All, RawNetlist, Project, campaign_of}
 use Rattle.mutation_sites.specs.declared.site.Site.{Site}
 use Rattle.mutation_sites.specs.Mutants.{IsSite}
 use Rattle.campaign_choice.specs.Mutations.{all_sites, picked_sites}
-use Rattle.campaign_choice.specs.Campaigns.{campaign_of}
 use Rattle.campaign_reading.proofs.making.make_campaign.Goals as goal
 
 pub choose-requires-clause-placed : goal.choose-requires-clause-placed

@@ -1,13 +1,6 @@
-use Rattle.std.proofs.Common.{subst, sym}
-use Rattle.std.proofs.lemmas.Result.{err_from_is_err_and}
-use Rattle.netlist_core.specs.declared.raw.RawNetlist.{RawNetlist}
-use Rattle.campaign_reading.specs.declared.preparing.PrepareError.{PrepareError}
-use Rattle.project_sources.specs.Netlists.{HasNetlist}
-use Rattle.campaign_choice.specs.Limits.{IsWithinLimits}
-use Rattle.campaign_choice.specs.Projects.{design_part}
-use Rattle.campaign_reading.specs.Reads.{HasDesign, HasSites, IsRefusedAsLarge, IsRefusedWithoutSites, IsUnbenched}
+use Rattle.campaign_reading.proofs.Common.{subst, sym, err_from_is_err_and, RawNetlist, PrepareError, HasNetlist, IsWithinLimits, design_part, HasDesign, HasSites, IsRefusedAsLarge}
+use Rattle.campaign_reading.proofs.Common.{IsRefusedWithoutSites, IsUnbenched, LeavesOut}
 use Rattle.campaign_reading.proofs.Takes.{large_unprepared}
-use Rattle.campaign_plan.specs.Campaigns.{LeavesOut}
 use Rattle.campaign_reading.proofs.Judging.{lacking_unprepared, unbenched_unprepared}
 use Rattle.campaign_reading.proofs.preparing.judge.Goals as goal
 

@@ -1,5 +1,4 @@
-use Rattle.std.proofs.lemmas.Result.{IfOk-weaker}
-use Rattle.campaign_plan.specs.Campaigns.{LeavesOut}
+use Rattle.campaign_reading.proofs.Common.{IfOk-weaker, LeavesOut}
 use Rattle.campaign_reading.proofs.Judging.{left_found}
 use Rattle.campaign_reading.proofs.preparing.left_out.Goals as goal
 

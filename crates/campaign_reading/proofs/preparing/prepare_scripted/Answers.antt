@@ -1,4 +1,4 @@
-use Rattle.std.proofs.Common.{arith}
+use Rattle.campaign_reading.proofs.Common.{arith}
 use Rattle.project_limits.proofs.Tests.{tests_few}
 use Rattle.campaign_plan.proofs.Plans.{files_few}
 use Rattle.campaign_reading.proofs.preparing.prepare_scripted.Goals as goal

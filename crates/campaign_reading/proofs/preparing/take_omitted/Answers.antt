@@ -1,4 +1,4 @@
-use Rattle.std.proofs.Common.{◌∙◌, sym}
+use Rattle.campaign_reading.proofs.Common.{◌∙◌, sym}
 use Rattle.campaign_reading.proofs.Judging.{lacking_found}
 use Rattle.campaign_reading.proofs.preparing.take_omitted.Goals as goal
 

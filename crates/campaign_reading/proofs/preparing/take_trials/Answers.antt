@@ -1,5 +1,4 @@
-use Rattle.std.proofs.Common.{length}
-use Rattle.project_file.specs.Projects.{design_files}
+use Rattle.campaign_reading.proofs.Common.{length, design_files}
 use Rattle.campaign_reading.proofs.First.{top_found}
 use Rattle.campaign_reading.proofs.preparing.take_trials.Goals as goal
 

@@ -1,10 +1,4 @@
-use Rattle.std.proofs.Common.{List, ℕ, Option, subst, sym}
-use Rattle.std.proofs.lemmas.Result.{err_from_is_err_and}
-use Rattle.mcy_base.specs.declared.file.SourceFile.{SourceFile}
-use Rattle.mcy_outside.specs.Files.{Held}
-use Rattle.project_file.specs.declared.project.Project.{Project}
-use Rattle.campaign_reading.specs.Files.{config_name, Got}
-use Rattle.campaign_reading.specs.Reads.{refused_as, GotSources}
+use Rattle.campaign_reading.proofs.Common.{List, ℕ, Option, subst, sym, err_from_is_err_and, SourceFile, Held, Project, config_name, Got, refused_as, GotSources}
 use Rattle.campaign_reading.proofs.Takes.{made_of, unprepared_untaken, untaken_unmade}
 use Rattle.campaign_reading.proofs.reading.read_campaign.Goals as goal
 

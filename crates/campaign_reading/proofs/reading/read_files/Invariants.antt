@@ -1,7 +1,5 @@
-use Rattle.std.proofs.Common.{◌≡◌, ◌≤◌, ℕ, All, List, drop, length, map, take}
-use Rattle.campaign_reading.specs.Files.{GotAll}
-use Rattle.campaign_choice.specs.Limits.{max_bytes}
-use Rattle.campaign_reading.specs.Reads.{IsNext}
+use Rattle.campaign_reading.proofs.Common.{◌≡◌, ◌≤◌, ℕ, List, drop, length, map, take, GotAll, max_bytes, IsNext}
+use Rattle.std.proofs.Common.{All}
 use Rattle.campaign_reading.proofs.reading.read_files.Given as goal
 
 abbrev pub invariant-loop-name : goal.invariant-loop-name

@@ -1,5 +1,4 @@
-use Rattle.std.proofs.Common.{◌≡◌, ◌++◌, drop, map}
-use Rattle.campaign_plan.specs.Trials.{numbers_from}
+use Rattle.campaign_reading.proofs.Common.{◌≡◌, ◌++◌, drop, map, numbers_from}
 use Rattle.campaign_reading.proofs.trials.numbers_in.Given as goal
 
 abbrev pub invariant-loop-number : goal.invariant-loop-number

@@ -1,8 +1,4 @@
-use Rattle.std.proofs.Common.{◌≡◌, ◌+◌, List, map, length, ap, sym, ◌∙◌, arith}
-use Rattle.std.specs.Prelude.{Option, Some}
-use Rattle.vlog_effects.specs.Laws.{item_steps}
-use Rattle.vlog_effects.specs.Steps.{InNames, Item, front, arms_of}
-use Rattle.case_arms.specs.Arms.{item_body}
+use Rattle.case_arms.proofs.Common.{◌≡◌, ◌+◌, List, map, length, ap, sym, ◌∙◌, arith, Option, Some, item_steps, InNames, Item, front, arms_of, item_body}
 use Rattle.case_arms.proofs.Bounds.{front_is, last_is}
 use Rattle.case_arms.proofs.chosen.all_but_last.Goals as goal
 

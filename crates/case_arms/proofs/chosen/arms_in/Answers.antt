@@ -1,10 +1,4 @@
-use Rattle.std.proofs.Common.{◌≡◌, ◌∷◌, [], List, map, refl, sym, ap, ◌∙◌, false}
-use Rattle.vlog_syntax.specs.declared.expr.Expr.{Expr}
-use Rattle.vlog_meaning.specs.declared.shapes.Shape.{Shape}
-use Rattle.vlog_meaning.specs.Scopes.{names_of}
-use Rattle.vlog_effects.specs.Laws.{item_steps}
-use Rattle.vlog_effects.specs.Steps.{greatest, selection_of}
-use Rattle.elab_proc.proofs.StepLemmas.{labels_same}
+use Rattle.case_arms.proofs.Common.{◌≡◌, ◌∷◌, [], List, map, refl, sym, ap, ◌∙◌, false, Expr, Shape, names_of, item_steps, greatest, selection_of, labels_same}
 use Rattle.case_arms.proofs.chosen.arms_in.Goals as goal
 
 pub returns-clause-arms : goal.returns-clause-arms

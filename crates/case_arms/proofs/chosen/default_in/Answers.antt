@@ -1,7 +1,4 @@
-use Rattle.std.proofs.Common.{◌∙◌, [], ap, sym, add-one, arith, false}
-use Rattle.std.specs.Prelude.{Some}
-use Rattle.vlog_effects.specs.Steps.{InNames}
-use Rattle.elab_proc.proofs.StepLemmas.{default_here, default_labelled}
+use Rattle.case_arms.proofs.Common.{◌∙◌, [], ap, sym, add-one, false, Some, InNames, default_here, default_labelled}
 use Rattle.case_arms.proofs.Bounds.{body_here}
 use Rattle.case_arms.proofs.chosen.default_in.Goals as goal
 

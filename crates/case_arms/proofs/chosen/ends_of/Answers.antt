@@ -1,8 +1,4 @@
-use Rattle.std.proofs.Common.{map}
-use Rattle.vlog_meaning.specs.Scopes.{names_of}
-use Rattle.vlog_effects.specs.Laws.{item_steps}
-use Rattle.vlog_effects.specs.Steps.{selection_of}
-use Rattle.case_arms.specs.Arms.{arms_within}
+use Rattle.case_arms.proofs.Common.{map, names_of, item_steps, selection_of, arms_within}
 use Rattle.case_arms.proofs.Bounds.{ends_default, ends_open, ends_full}
 use Rattle.case_arms.proofs.chosen.ends_of.Goals as goal
 

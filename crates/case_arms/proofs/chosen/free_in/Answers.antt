@@ -1,7 +1,4 @@
-use Rattle.std.proofs.Common.{◌∙◌, ap, sym, add-one, arith}
-use Rattle.vlog_syntax.specs.declared.stmt.CaseItem.{CaseItem}
-use Rattle.vlog_effects.specs.Steps.{always}
-use Rattle.elab_proc.specs.Refusals.{labels_in}
+use Rattle.case_arms.proofs.Common.{◌∙◌, ap, sym, add-one, arith, CaseItem, always, labels_in}
 use Rattle.case_arms.proofs.Bounds.{labels_here, free_more, none_less}
 use Rattle.case_arms.proofs.chosen.free_in.Goals as goal
 

@@ -1,6 +1,4 @@
-use Rattle.std.proofs.Common.{◌≡◌, take}
-use Rattle.vlog_effects.specs.Steps.{Selection}
-use Rattle.case_arms.specs.Arms.{NoneFree}
+use Rattle.case_arms.proofs.Common.{◌≡◌, take, Selection, NoneFree}
 use Rattle.case_arms.proofs.chosen.free_in.Given as goal
 
 abbrev pub invariant-loop-place : goal.invariant-loop-place

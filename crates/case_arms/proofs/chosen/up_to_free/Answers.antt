@@ -1,6 +1,4 @@
-use Rattle.std.proofs.Common.{subst, sym, take}
-use Rattle.std.specs.Option.{option_map}
-use Rattle.case_arms.specs.Arms.{IsFirstFree, item_body}
+use Rattle.case_arms.proofs.Common.{subst, sym, take, option_map, IsFirstFree, item_body}
 use Rattle.case_arms.proofs.Bounds.{free_before, bound_arms}
 use Rattle.case_arms.proofs.chosen.up_to_free.Goals as goal
 

@@ -1,9 +1,5 @@
-use Rattle.std.proofs.Common.{add-one, arith, take}
-use Rattle.std.specs.List.{flat_map}
+use Rattle.case_arms.proofs.Common.{add-one, arith, take, flat_map, names_of, wrong, labels_in, labels_nil, labels_within_at}
 use Rattle.std.proofs.lemmas.List.{take_all}
-use Rattle.vlog_meaning.specs.Scopes.{names_of}
-use Rattle.elab_proc.specs.Refusals.{wrong, labels_in}
-use Rattle.elab_proc.proofs.CaseLemmas.{labels_nil, labels_within_at}
 use Rattle.elab_proc.proofs.Lists.{flat_take}
 use Rattle.case_arms.proofs.Values.{named_item}
 use Rattle.case_arms.proofs.named.add_all_named.Goals as goal

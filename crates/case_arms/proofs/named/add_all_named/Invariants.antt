@@ -1,9 +1,4 @@
-use Rattle.std.proofs.Common.{◌≡◌, ℕ, ◌||◌, take}
-use Rattle.std.specs.List.{flat_map}
-use Rattle.vlog_meaning.specs.Scopes.{names_of}
-use Rattle.vlog_effects.specs.Steps.{Selection, is_named}
-use Rattle.elab_proc.specs.Refusals.{labels_in}
-use Rattle.case_arms.specs.Naming.{IsOf, has}
+use Rattle.case_arms.proofs.Common.{◌≡◌, ℕ, ◌||◌, take, flat_map, names_of, Selection, is_named, labels_in, IsOf, has}
 use Rattle.case_arms.proofs.named.add_all_named.Given as goal
 
 abbrev pub invariant-loop-item : goal.invariant-loop-item

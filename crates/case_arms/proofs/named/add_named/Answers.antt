@@ -1,6 +1,4 @@
-use Rattle.std.proofs.Common.{add-one, arith}
-use Rattle.vlog_meaning.specs.Scopes.{names_of}
-use Rattle.elab_proc.proofs.CaseLemmas.{each_whole, within_at}
+use Rattle.case_arms.proofs.Common.{add-one, arith, names_of, each_whole, within_at}
 use Rattle.case_arms.proofs.Values.{named_skip, named_more}
 use Rattle.case_arms.proofs.named.add_named.Goals as goal
 

@@ -1,7 +1,4 @@
-use Rattle.std.proofs.Common.{◌≡◌, ℕ, ◌||◌, take}
-use Rattle.vlog_meaning.specs.Scopes.{names_of}
-use Rattle.vlog_effects.specs.Steps.{Selection, is_named}
-use Rattle.case_arms.specs.Naming.{IsOf, has}
+use Rattle.case_arms.proofs.Common.{◌≡◌, ℕ, ◌||◌, take, names_of, Selection, is_named, IsOf, has}
 use Rattle.case_arms.proofs.named.add_named.Given as goal
 
 abbrev pub invariant-loop-label : goal.invariant-loop-label

@@ -1,5 +1,4 @@
-use Rattle.std.proofs.Common.{Bool, ap, ◌∙◌, ◌&&◌, add-one}
-use Rattle.case_arms.specs.Naming.{has}
+use Rattle.case_arms.proofs.Common.{Bool, ap, ◌∙◌, ◌&&◌, add-one, has}
 use Rattle.case_arms.proofs.named.has_each.Goals as goal
 
 pub loop-number-preserved : goal.loop-number-preserved

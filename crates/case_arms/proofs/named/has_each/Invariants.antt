@@ -1,5 +1,4 @@
-use Rattle.std.proofs.Common.{◌≡◌}
-use Rattle.case_arms.specs.Naming.{has_all}
+use Rattle.case_arms.proofs.Common.{◌≡◌, has_all}
 use Rattle.case_arms.proofs.named.has_each.Given as goal
 
 abbrev pub invariant-loop-number : goal.invariant-loop-number

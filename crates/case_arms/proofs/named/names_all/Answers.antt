@@ -1,9 +1,5 @@
-use Rattle.std.proofs.Common.{◌∷◌, arith, rules}
-use Rattle.std.specs.List.{flat_map}
-use Rattle.vlog_meaning.specs.Scopes.{names_of}
+use Rattle.case_arms.proofs.Common.{◌∷◌, arith, rules, flat_map, names_of, wrong, labels_in, common_within, labels_within}
 use Rattle.vlog_meaning.proofs.Blanks.{left_nil, right_nil}
-use Rattle.elab_proc.specs.Refusals.{wrong, labels_in}
-use Rattle.elab_proc.proofs.CaseLemmas.{common_within, labels_within}
 use Rattle.case_arms.proofs.Values.{names_are, names_many}
 use Rattle.case_arms.proofs.named.names_all.Goals as goal
 

@@ -1,6 +1,4 @@
-use Rattle.std.proofs.Common.{◌-◌, length, false, arith}
-use Rattle.gate_list.specs.declared.literal.GateLit.TheVariants.{Fixed}
-use Rattle.gate_words.proofs.Numbers.{not-zero}
+use Rattle.cell_gates.proofs.Common.{◌-◌, length, false, arith, Fixed, not-zero}
 use Rattle.cell_gates.proofs.CellNumbers.{top-at}
 use Rattle.cell_gates.proofs.bits.top_lit.Goals as goal
 

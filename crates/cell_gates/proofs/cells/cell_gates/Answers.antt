@@ -1,10 +1,5 @@
-use Rattle.std.proofs.Common.{◌≡◌, ℕ, List, length, sym, subst, ap, ◌∙◌, arith}
-use Rattle.netlist_core.specs.declared.bit.Bit.{Bit}
+use Rattle.cell_gates.proofs.Common.{◌≡◌, ℕ, List, length, sym, subst, ap, ◌∙◌, arith, Bit, shape_of, HasWidths, GateLit, grown-length, row-told, cell_row}
 use Rattle.netlist_core.specs.Runs.{output_port}
-use Rattle.netlist_core.specs.Shapes.{shape_of, HasWidths}
-use Rattle.gate_list.specs.declared.literal.GateLit.{GateLit}
-use Rattle.gate_words.proofs.Growing.{grown-length, row-told}
-use Rattle.cell_gates.specs.CellRows.{cell_row}
 use Rattle.cell_gates.proofs.PortWidths.{same-widths, inputs-narrow, cell-told}
 use Rattle.cell_gates.proofs.cells.cell_gates.Goals as goal
 

@@ -1,9 +1,5 @@
-use Rattle.std.proofs.Common.{List, map, sym, subst, ap, ◌∙◌}
-use Rattle.std.specs.List.{All}
-use Rattle.gate_list.specs.declared.literal.GateLit.{GateLit}
-use Rattle.gate_list.specs.Gates.{count, IsLit}
+use Rattle.cell_gates.proofs.Common.{List, map, sym, subst, ap, ◌∙◌, All, GateLit, count, IsLit, lits-negated}
 use Rattle.gate_list.specs.Folding.{negated}
-use Rattle.gate_words.proofs.Adders.{lits-negated}
 use Rattle.cell_gates.proofs.choices.kept.Goals as goal
 
 pub row-requires-clause-b : goal.row-requires-clause-b

@@ -1,6 +1,4 @@
-use Rattle.std.proofs.Common.{sym, subst}
-use Rattle.gate_list.specs.declared.literal.GateLit.{GateLit}
-use Rattle.gate_list.specs.Gates.{count, IsLit}
+use Rattle.cell_gates.proofs.Common.{sym, subst, GateLit, count, IsLit}
 use Rattle.cell_gates.proofs.CellNumbers.{top-within}
 use Rattle.cell_gates.proofs.choices.of_shift.Goals as goal
 

@@ -1,10 +1,4 @@
-use Rattle.std.proofs.Common.{◌≡◌, List, length, sym, subst, ap, ◌∙◌, arith}
-use Rattle.std.specs.List.{All}
-use Rattle.gate_list.specs.declared.literal.GateLit.{GateLit}
-use Rattle.gate_list.specs.Gates.{count, IsLit}
-use Rattle.gate_words.specs.Rows.{fitted_to}
-use Rattle.gate_words.proofs.Growing.{grown-length, lits-later, row-told}
-use Rattle.cell_gates.specs.CellRows.{kept_in}
+use Rattle.cell_gates.proofs.Common.{◌≡◌, List, length, sym, subst, ap, ◌∙◌, arith, All, GateLit, count, IsLit, fitted_to, grown-length, lits-later, row-told, kept_in}
 use Rattle.cell_gates.proofs.CellLemmas.{kept-adds, fitted-within, length-fitted}
 use Rattle.cell_gates.proofs.choices.put.Goals as goal
 

@@ -1,8 +1,4 @@
-use Rattle.std.proofs.Common.{◌≡◌, [], ◌∷◌, sym, subst}
-use Rattle.cell_meaning.specs.Words.{word_bits}
-use Rattle.netlist_core.specs.declared.cell.CellKind.TheVariants.{Not, Neg}
-use Rattle.netlist_core.specs.Shapes.{shape_of, HasWidths}
-use Rattle.cell_meaning.specs.Words.{HasValue}
+use Rattle.cell_meaning.proofs.Common.{◌≡◌, [], ◌∷◌, sym, subst, word_bits, Not, Neg, shape_of, HasWidths, HasValue}
 use Rattle.cell_meaning.proofs.value.number_of_one.Goals as goal
 
 pub returns-in-Not : goal.returns-in-Not

@@ -1,8 +1,4 @@
-use Rattle.std.proofs.Common.{◌≡◌, [], ◌∷◌, sym, subst}
-use Rattle.cell_meaning.specs.Words.{word_bits}
-use Rattle.netlist_core.specs.declared.cell.CellKind.TheVariants.{Put}
-use Rattle.netlist_core.specs.Shapes.{shape_of, HasWidths}
-use Rattle.cell_meaning.specs.Words.{HasValue}
+use Rattle.cell_meaning.proofs.Common.{◌≡◌, [], ◌∷◌, sym, subst, word_bits, Put, shape_of, HasWidths, HasValue}
 use Rattle.cell_meaning.proofs.value.number_of_three.Goals as goal
 
 pub returns-in-Mux : goal.returns-in-Mux

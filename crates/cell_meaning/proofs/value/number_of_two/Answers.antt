@@ -1,6 +1,4 @@
-use Rattle.std.proofs.Common.{[], ◌∷◌, sym, subst}
-use Rattle.cell_meaning.specs.Words.{word_bits}
-use Rattle.cell_meaning.specs.Words.{HasValue}
+use Rattle.cell_meaning.proofs.Common.{[], ◌∷◌, sym, subst, word_bits, HasValue}
 use Rattle.cell_meaning.proofs.value.number_of_two.Goals as goal
 
 pub returns-in-Pick : goal.returns-in-Pick

@@ -1,7 +1,4 @@
-use Rattle.std.proofs.Common.{◌≡◌, ℕ, ◌-◌, ◌∙◌, ◌++◌, Bool, length, take, replicate, ap, arith}
-use Rattle.process_cells.specs.Items.{widths_in}
-use Rattle.flat_items.specs.Views.{flat_of}
-use Rattle.elab_items.specs.Items.{cell_count}
+use Rattle.cell_scopes.proofs.Common.{◌≡◌, ℕ, ◌-◌, ◌∙◌, ◌++◌, Bool, length, take, replicate, ap, arith, widths_in, flat_of, cell_count}
 use Rattle.cell_scopes.proofs.Counted.{filled_up}
 use Rattle.cell_scopes.proofs.cells.add_next.Goals as goal
 

@@ -1,8 +1,4 @@
-use Rattle.std.proofs.Common.{◌≡◌, length, refl, sym, ap, ◌∙◌, arith}
-use Rattle.flat_items.specs.Views.{flat_of}
-use Rattle.process_cells.specs.Items.{widths_in}
-use Rattle.elab_items.proofs.Standing.{rest_is}
-use Rattle.project_options.specs.Instances.{is_within_some}
+use Rattle.cell_scopes.proofs.Common.{◌≡◌, length, refl, sym, ap, ◌∙◌, arith, flat_of, widths_in, rest_is, is_within_some}
 use Rattle.cell_scopes.proofs.Counted.{flags_first, flags_last, flags_next}
 use Rattle.cell_scopes.proofs.cells.all_flags.Goals as goal
 

@@ -1,12 +1,5 @@
-use Rattle.std.proofs.Common.{◌≡◌, ◌++◌, [], length}
-use Rattle.std.specs.Prelude.{map}
-use Rattle.process_cells.specs.Items.{widths_in}
-use Rattle.flat_items.specs.Views.{flat_of}
-use Rattle.elab_items.specs.Designs.{widths_of}
+use Rattle.cell_scopes.proofs.Common.{◌≡◌, ◌++◌, [], length, map, widths_in, flat_of, widths_of, Stands, is_within_some, cell_scopes, scopes_from}
 use Rattle.elab_items.specs.Desks.{Serves}
-use Rattle.elab_items.specs.Items.{Stands}
-use Rattle.project_options.specs.Instances.{is_within_some}
-use Rattle.cell_scopes.specs.Scopes.{cell_scopes, scopes_from}
 use Rattle.cell_scopes.proofs.cells.all_flags.Given as goal
 
 abbrev pub invariant-loop-rest : goal.invariant-loop-rest

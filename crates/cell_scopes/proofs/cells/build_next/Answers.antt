@@ -1,10 +1,10 @@
-use Rattle.flat_items.specs.Views.{flat_of}
-use Rattle.cell_scopes.proofs.Counted.{item_cells, item_stands, item_widths}
+use Rattle.cell_scopes.proofs.Common.{flat_of, built_count, builds_stand}
+use Rattle.cell_scopes.proofs.Counted.{item_widths}
 use Rattle.cell_scopes.proofs.cells.build_next.Goals as goal
 
 pub returns-in-Ok-clause-stands : goal.returns-in-Ok-clause-stands
 returns-in-Ok-clause-stands c =
-    item_stands _ (flat_of c.args.flat.now).places c.args.item.now c.args.builder.now c.build_item.new.builder c.in-Ok.ensures.built c.requires.stands
+    builds_stand _ (flat_of c.args.flat.now).places c.args.item.now c.args.builder.now c.build_item.new.builder c.in-Ok.ensures.built c.requires.stands
 
 pub returns-in-Ok-clause-widths : goal.returns-in-Ok-clause-widths
 returns-in-Ok-clause-widths c =
@@ -12,4 +12,4 @@ returns-in-Ok-clause-widths c =
 
 pub returns-in-Ok-clause-cells : goal.returns-in-Ok-clause-cells
 returns-in-Ok-clause-cells c =
-    item_cells _ (flat_of c.args.flat.now).places c.args.item.now c.args.builder.now c.build_item.new.builder c.in-Ok.ensures.built
+    built_count _ (flat_of c.args.flat.now).places c.args.item.now c.args.builder.now c.build_item.new.builder c.in-Ok.ensures.built

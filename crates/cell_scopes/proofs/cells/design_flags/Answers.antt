@@ -1,7 +1,4 @@
-use Rattle.std.proofs.Common.{◌∙◌, ap}
-use Rattle.flat_items.specs.Views.{flat_of}
-use Rattle.net_builder.specs.Building.{empty}
-use Rattle.elab_items.specs.Signals.{declared}
+use Rattle.cell_scopes.proofs.Common.{◌∙◌, ap, flat_of, empty, declared}
 use Rattle.cell_scopes.proofs.Counted.{declared_cells, declared_ready, declared_widths}
 use Rattle.cell_scopes.proofs.cells.design_flags.Goals as goal
 

@@ -1,7 +1,5 @@
-use Rattle.std.proofs.Common.{refl}
+use Rattle.cell_scopes.proofs.Common.{refl, flat_of, AreSkipped, cell_scopes}
 use Rattle.std.proofs.lemmas.Result.{IfOk-weaker}
-use Rattle.flat_items.specs.Views.{flat_of}
-use Rattle.cell_scopes.specs.Scopes.{AreSkipped, cell_scopes}
 use Rattle.cell_scopes.proofs.Counted.{flat_sound}
 use Rattle.cell_scopes.proofs.cells.skipped_cells.Goals as goal
 

@@ -1,5 +1,4 @@
-use Rattle.std.proofs.Common.{◌≡◌, drop, map}
-use Rattle.command_words.specs.Commands.{all_said, mutation_number}
+use Rattle.command_words.proofs.Common.{◌≡◌, drop, map, all_said, mutation_number}
 use Rattle.command_words.proofs.AllSaid.{behind}
 use Rattle.command_words.proofs.numbers.all_numbers.Given as goal
 

@@ -1,10 +1,7 @@
 -- The parts between the commas are the words that are read.
-use Rattle.std.proofs.Common.{ap, lit<, map, ℕ, Bor, List, ◌≡◌, ◌∙◌, ◌==◌}
-use Rattle.std.specs.List.{slice_split}
-use Rattle.std.proofs.lemmas.Result.{IfOk-weaker}
+use Rattle.command_words.proofs.Common.{ap, lit<, map, ℕ, Bor, List, ◌≡◌, ◌∙◌, ◌==◌, slice_split, IfOk-weaker, all_said, mutation_number}
 use Rattle.std.proofs.lemmas.Iterator.Consumers.{map_from_collect}
 use Rattle.std.proofs.lemmas.Iterator.Splits.{YieldsList-from_str_split}
-use Rattle.command_words.specs.Commands.{all_said, mutation_number}
 use Rattle.command_words.proofs.numbers.mutation_numbers.Goals as goal
 
 pub returns : goal.returns

@@ -1,10 +1,6 @@
 -- A word that `parse` refuses has no digits, or a number of 2 ^ 32 or more.
-use Rattle.std.proofs.Common.{◌≡◌, ◌&&◌, ◌<◌, ◌^◌, false, List, ℕ, None, Err, nat_lt}
-use Rattle.std.proofs.lemmas.Bool.{and_parts, false_from_ne_true}
-use Rattle.std.proofs.lemmas.Bool.Decides.{Decides-ltb}
+use Rattle.command_words.proofs.Common.{◌≡◌, ◌&&◌, ◌<◌, ◌^◌, false, List, ℕ, None, Err, nat_lt, and_parts, false_from_ne_true, Decides-ltb, ParsesUnsigned, digits_value, is_numeral, small_number}
 use Rattle.std.proofs.lemmas.Str.Parse.{parse_digits}
-use Rattle.std.specs.Str.Parse.{ParsesUnsigned, digits_value}
-use Rattle.command_words.specs.Commands.{is_numeral, small_number}
 use Rattle.command_words.proofs.Numerals.{numeral_word, numerals}
 use Rattle.command_words.proofs.numbers.number.Goals as goal
 

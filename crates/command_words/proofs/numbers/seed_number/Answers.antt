@@ -1,9 +1,6 @@
 -- A word that `parse` refuses has no digits, since ten digits are below 2 ^ 64.
-use Rattle.std.proofs.Common.{◌≡◌, false, List, ℕ, None, Err}
-use Rattle.std.proofs.lemmas.Bool.{false_from_ne_true}
+use Rattle.command_words.proofs.Common.{◌≡◌, false, List, ℕ, None, Err, false_from_ne_true, ParsesUnsigned, is_numeral, seed_number}
 use Rattle.std.proofs.lemmas.Str.Parse.{parse_digits}
-use Rattle.std.specs.Str.Parse.{ParsesUnsigned}
-use Rattle.command_words.specs.Commands.{is_numeral, seed_number}
 use Rattle.command_words.proofs.Numerals.{numeral_small, numeral_word, numerals}
 use Rattle.command_words.proofs.numbers.seed_number.Goals as goal
 

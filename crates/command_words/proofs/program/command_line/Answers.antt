@@ -1,8 +1,5 @@
 -- The last commands, one after the other.
-use Rattle.std.proofs.Common.{rules, ap, ap₂, codes, ◌≡◌, ◌∙◌}
-use Rattle.std.proofs.lemmas.Result.{IfOk-weaker}
-use Rattle.clap.specs.Words.{App, app_of, with_subcommand}
-use Rattle.command_words.specs.Program.{demo_line, first_line, leaf}
+use Rattle.command_words.proofs.Common.{rules, ap, ap₂, codes, ◌≡◌, ◌∙◌, IfOk-weaker, App, app_of, with_subcommand, demo_line, first_line, leaf}
 use Rattle.command_words.proofs.program.command_line.Goals as goal
 
 pub returns : goal.returns

@@ -1,9 +1,5 @@
 -- The two words behind `demo`, which are none of the commands below it.
-use Rattle.std.proofs.Common.{rules, ap₂, codes, false, refl, ◌≡◌, ◌∙◌}
-use Rattle.std.proofs.lemmas.Result.{IfOk-weaker}
-use Rattle.clap.specs.Words.{app_of, new_app, rule_of, with_rule}
-use Rattle.clap.specs.declared.builder.command.Command.TheViews.{out-Command as fields_of}
-use Rattle.command_words.specs.Program.{cells_rule, seed_rule}
+use Rattle.command_words.proofs.Common.{rules, ap₂, codes, false, refl, ◌≡◌, ◌∙◌, IfOk-weaker, app_of, new_app, rule_of, with_rule, fields_of, cells_rule, seed_rule}
 use Rattle.command_words.proofs.program.demo_line.Goals as goal
 
 pub returns-clause-shape : goal.returns-clause-shape

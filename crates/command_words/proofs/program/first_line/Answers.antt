@@ -1,8 +1,5 @@
 -- The settings and the first commands, one after the other.
-use Rattle.std.proofs.Common.{rules, ap, ap₂, codes, true, ◌≡◌, ◌∙◌}
-use Rattle.std.proofs.lemmas.Result.{IfOk-weaker}
-use Rattle.clap.specs.Words.{App, app_of, with_subcommand}
-use Rattle.command_words.specs.Program.{bare_program, leaf, run_line, run_shape, status_line}
+use Rattle.command_words.proofs.Common.{rules, ap, ap₂, codes, true, ◌≡◌, ◌∙◌, IfOk-weaker, App, app_of, with_subcommand, bare_program, leaf, run_line, run_shape, status_line}
 use Rattle.command_words.proofs.program.first_line.Goals as goal
 
 pub returns : goal.returns

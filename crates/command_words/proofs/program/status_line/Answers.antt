@@ -1,8 +1,5 @@
 -- The flag of `status`, which is none of the commands below it.
-use Rattle.std.proofs.Common.{rules, ap₂, false, refl, ◌≡◌, ◌∙◌}
-use Rattle.std.proofs.lemmas.Result.{IfOk-weaker}
-use Rattle.clap.specs.Words.{rule_of, with_rule}
-use Rattle.command_words.specs.Program.{strict_rule}
+use Rattle.command_words.proofs.Common.{rules, ap₂, false, refl, ◌≡◌, ◌∙◌, IfOk-weaker, rule_of, with_rule, strict_rule}
 use Rattle.command_words.proofs.program.status_line.Goals as goal
 
 pub returns-clause-shape : goal.returns-clause-shape

@@ -1,10 +1,7 @@
 -- The name of the subcommand and its rows make one pair.
-use Rattle.std.proofs.Common.{rules, ap, ap₂, sym, codes, true≢false, ◌≡◌, ◌∙◌, List, Option, Some, None, option_map}
-use Rattle.std.specs.Option.{is_some, option_map_or}
-use Rattle.std.proofs.lemmas.Result.{IfOk-weaker}
-use Rattle.clap.specs.Words.{Row, Text, first_of, found_of, rows_of, subcommand_rows_of}
-use Rattle.clap.proofs.WalkLemmas.{first_value-rows}
-use Rattle.command_words.specs.Program.{asked_by, asked_named, demo_by, status_by}
+use Rattle.command_words.proofs.Common.{rules, ap, ap₂, sym, codes, true≢false, ◌≡◌, ◌∙◌, List, Option, Some, None, option_map, is_some, option_map_or, IfOk-weaker, found_of, rows_of}
+use Rattle.command_words.proofs.Common.{subcommand_rows_of, first_value-rows, asked_by, asked_named, demo_by, status_by}
+use Rattle.clap.specs.Words.{Row, Text, first_of}
 use Rattle.command_words.proofs.reading.matched.Goals as goal
 
 paired : {X : Type 0} (f : X → Text × List Row) (o : Option X) (name : Text) (rows : List Row) → Some name ≡ option_map (λ b. (f b).0) o

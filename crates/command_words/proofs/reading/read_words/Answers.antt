@@ -1,12 +1,7 @@
 -- What the parse's clauses say of the command line, turned into what the words ask for.
-use Rattle.std.proofs.Common.{rules, ap, subst, refl, sym, true, false, true≢false, inl, inr, map, string_bytes, ◌≡◌, ◌∙◌, List, []}
-use Rattle.std.specs.Prelude.{bytes_eq}
-use Rattle.std.specs.List.{list_any}
-use Rattle.std.proofs.lemmas.Result.{IfOk-weaker}
-use Rattle.clap.specs.Words.{App, IsAmong, Text, app_of, fault_of, is_simple, is_simple_and_free, kind_of, subcommand_of, subcommand_rows_of}
-use Rattle.clap.proofs.WalkLemmas.{list_any-map}
-use Rattle.clap.proofs.OnLiterals.{clap_on_literals}
-use Rattle.command_words.specs.Program.{asked_by, command_line}
+use Rattle.command_words.proofs.Common.{rules, ap, subst, refl, sym, true, false, true≢false, inl, inr, map, string_bytes, ◌≡◌, ◌∙◌, List, [], bytes_eq, list_any, IfOk-weaker, App, app_of, is_simple}
+use Rattle.command_words.proofs.Common.{is_simple_and_free, kind_of, subcommand_rows_of, list_any-map, clap_on_literals, asked_by, command_line}
+use Rattle.clap.specs.Words.{IsAmong, Text, fault_of, subcommand_of}
 use Rattle.command_words.proofs.RunTurns.{IsClean}
 use Rattle.command_words.proofs.Turns.{dashes}
 use Rattle.command_words.proofs.Whole.{accepted, clean_from, refused, with_dashes}

@@ -1,9 +1,5 @@
 -- The values of the options are those of the rows.
-use Rattle.std.proofs.Common.{codes, ◌∙◌}
-use Rattle.std.proofs.lemmas.Result.{IfOk-weaker}
-use Rattle.clap.specs.Words.{found_of}
-use Rattle.clap.proofs.WalkLemmas.{first_value-rows}
-use Rattle.command_words.specs.Program.{run_by}
+use Rattle.command_words.proofs.Common.{codes, ◌∙◌, IfOk-weaker, found_of, first_value-rows, run_by}
 use Rattle.command_words.proofs.reading.run_found.Goals as goal
 
 pub returns : goal.returns

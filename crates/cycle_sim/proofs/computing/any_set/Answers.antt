@@ -1,5 +1,4 @@
-use Rattle.std.proofs.Common.{sym}
-use Rattle.cycle_sim.specs.Parts.{wires_bits}
+use Rattle.cycle_sim.proofs.Common.{sym, wires_bits}
 use Rattle.cycle_sim.proofs.ByNumbers.{read-bits, set-is}
 use Rattle.cycle_sim.proofs.computing.any_set.Goals as goal
 

@@ -1,4 +1,4 @@
-use Rattle.std.proofs.Common.{◌∙◌}
+use Rattle.cycle_sim.proofs.Common.{◌∙◌}
 use Rattle.cycle_sim.proofs.PartNumbers.{masked}
 use Rattle.cycle_sim.proofs.computing.compute.Goals as goal
 

@@ -1,9 +1,4 @@
-use Rattle.std.proofs.Common.{ℕ, ◌+◌, ◌%◌, ◌^◌, Bool, List, [], ◌∷◌, bit_and, bit_or, sym, ◌∙◌, subst}
-use Rattle.std.specs.Prelude.{bit_xor}
-use Rattle.netlist_core.specs.declared.cell.CellKind.TheVariants.{And, Or, Xor, Add, Eq}
-use Rattle.netlist_core.specs.Shapes.{shape_of, HasWidths}
-use Rattle.cell_meaning.specs.Words.{HasValue}
-use Rattle.cycle_sim.specs.Parts.{wires_bits}
+use Rattle.cycle_sim.proofs.Common.{ℕ, ◌+◌, ◌%◌, ◌^◌, Bool, List, [], ◌∷◌, bit_and, bit_or, sym, ◌∙◌, subst, bit_xor, And, Or, Xor, Add, Eq, shape_of, HasWidths, HasValue, wires_bits}
 use Rattle.cycle_sim.proofs.Gates.{word-is}
 use Rattle.cycle_sim.proofs.ByNumbers.{read-bits, of-kind, by-and, by-or, by-xor, by-add, by-eq}
 use Rattle.cycle_sim.proofs.computing.of_numbers.Goals as goal

@@ -1,6 +1,4 @@
-use Rattle.std.proofs.Common.{ℕ, Bool, List, [], ◌∷◌, sym, subst}
-use Rattle.netlist_core.specs.Shapes.{shape_of, HasWidths}
-use Rattle.cell_meaning.specs.Words.{HasValue}
+use Rattle.cycle_sim.proofs.Common.{ℕ, Bool, List, [], ◌∷◌, sym, subst, shape_of, HasWidths, HasValue}
 use Rattle.cycle_sim.proofs.Gates.{word-is}
 use Rattle.cycle_sim.proofs.computing.of_one.Goals as goal
 

@@ -1,8 +1,4 @@
-use Rattle.std.proofs.Common.{ℕ, Bool, List, [], ◌∷◌, sym, subst}
-use Rattle.netlist_core.specs.declared.cell.CellKind.{CellKind}
-use Rattle.netlist_core.specs.Shapes.{shape_of, HasWidths}
-use Rattle.cell_meaning.specs.Words.{HasValue}
-use Rattle.cycle_sim.specs.Parts.{wires_bits}
+use Rattle.cycle_sim.proofs.Common.{ℕ, Bool, List, [], ◌∷◌, sym, subst, CellKind, shape_of, HasWidths, HasValue, wires_bits}
 use Rattle.cycle_sim.proofs.Gates.{word-is}
 use Rattle.cycle_sim.proofs.computing.of_three.Goals as goal
 

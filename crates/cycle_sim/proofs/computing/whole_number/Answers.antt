@@ -1,4 +1,4 @@
-use Rattle.std.proofs.Common.{◌%◌, ◌^◌, [], ◌∷◌, arith}
+use Rattle.cycle_sim.proofs.Common.{◌%◌, ◌^◌, [], ◌∷◌, arith}
 use Rattle.cycle_sim.proofs.Gates.{item-readable, one-item, two-items, three-items, shape-is, number-is}
 use Rattle.cycle_sim.proofs.computing.whole_number.Goals as goal
 

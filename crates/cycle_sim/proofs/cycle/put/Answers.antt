@@ -1,7 +1,4 @@
-use Rattle.std.proofs.Common.{◌≡◌, ℕ, ◌*◌, ◌<◌, List, [], length, get_or, set, refl, sym, ◌∙◌, ap, subst, inl, inr, arith}
-use Rattle.std.specs.List.{Contains}
-use Rattle.std.proofs.lemmas.List.{get_or_read, set-get_or}
-use Rattle.cycle_sim.specs.Marks.{mark_at}
+use Rattle.cycle_sim.proofs.Common.{◌≡◌, ℕ, ◌*◌, ◌<◌, List, [], length, get_or, set, refl, sym, ◌∙◌, ap, subst, inl, inr, arith, Contains, get_or_read, set-get_or, mark_at}
 use Rattle.cycle_sim.proofs.cycle.put.Goals as goal
 
 pub returns-then-index-number : goal.returns-then-index-number

@@ -1,13 +1,5 @@
-use Rattle.std.proofs.Common.{◌≡◌, ℕ, ◌+◌, ◌*◌, ◌%◌, ◌^◌, ◌<◌, List, length, get_or, slice_get, Some, sym, ◌∙◌, ap, subst, arith}
-use Rattle.netlist_core.specs.declared.cell.Cell.{Cell}
-use Rattle.netlist_core.specs.declared.raw.RawNetlist.{RawNetlist}
-use Rattle.netlist_core.specs.Runs.{plain, output_port}
-use Rattle.netlist_core.specs.Settled.{number_at}
-use Rattle.netlist_core.specs.Checked.{Plan, IsSound}
-use Rattle.netlist_core.specs.Solutions.{FitPorts, driving}
-use Rattle.cycle_sim.specs.declared.parts.Gate.{Gate}
-use Rattle.cycle_sim.specs.Gates.{IsGateOf, AllGates, gate_number}
-use Rattle.cycle_sim.specs.Simulated.{nets_of}
+use Rattle.cycle_sim.proofs.Common.{◌≡◌, ℕ, ◌+◌, ◌*◌, ◌%◌, ◌^◌, ◌<◌, List, length, get_or, slice_get, Some, sym, ◌∙◌, ap, subst, arith, Cell, RawNetlist, plain, output_port, number_at, Plan, IsSound}
+use Rattle.cycle_sim.proofs.Common.{FitPorts, driving, Gate, IsGateOf, AllGates, gate_number, nets_of}
 use Rattle.cycle_sim.proofs.Computed.{place, place-inside, gates-length, gates-at}
 use Rattle.cycle_sim.proofs.Gates.{gate-computable, gate-computes}
 use Rattle.cycle_sim.proofs.Plans.{fit-length}

@@ -1,4 +1,4 @@
-use Rattle.std.proofs.Common.{ℕ, List, length, ap, arith}
+use Rattle.cycle_sim.proofs.Common.{ℕ, List, length, ap, arith}
 use Rattle.cycle_sim.proofs.Current.{all-computed}
 use Rattle.cycle_sim.proofs.cycle.settle_cells.Goals as goal
 

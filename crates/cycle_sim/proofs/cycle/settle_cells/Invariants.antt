@@ -1,5 +1,4 @@
-use Rattle.std.proofs.Common.{◌≡◌, ℕ, ◌-◌, ◌<◌, length}
-use Rattle.cycle_sim.specs.Marks.{mark_at, front, AreHeld}
+use Rattle.cycle_sim.proofs.Common.{◌≡◌, ℕ, ◌-◌, ◌<◌, length, mark_at, front, AreHeld}
 use Rattle.cycle_sim.proofs.cycle.settle_cells.Given as goal
 
 abbrev pub invariant-loop-place : goal.invariant-loop-place

@@ -1,7 +1,4 @@
-use Rattle.std.proofs.Common.{ℕ, List, [], ◌∷◌, map, subst}
-use Rattle.netlist_core.specs.Runs.{IsRun}
-use Rattle.netlist_core.specs.Checked.{Plan}
-use Rattle.cycle_sim.specs.Simulated.{Simulated, settled_nets}
+use Rattle.cycle_sim.proofs.Common.{ℕ, List, [], ◌∷◌, map, subst, IsRun, Plan, Simulated, settled_nets}
 use Rattle.cycle_sim.specs.Steps.{AreSteps}
 use Rattle.cycle_sim.proofs.laws.steps_are_runs.Goals as goal
 

@@ -1,5 +1,4 @@
-use Rattle.std.proofs.Common.{◌*◌, ◌^◌, ◌<◌, get_or, inl, inr, arith}
-use Rattle.std.proofs.lemmas.Bool.{cases_lt}
+use Rattle.cycle_sim.proofs.Common.{◌*◌, ◌^◌, ◌<◌, get_or, inl, inr, arith, cases_lt}
 use Rattle.cycle_sim.proofs.Marking.{whole-word, first-before, first-is}
 use Rattle.cycle_sim.proofs.marks.first_marked.Goals as goal
 

@@ -1,5 +1,4 @@
-use Rattle.std.proofs.Common.{◌≡◌, ℕ, ◌*◌, ◌<◌, ◌≤◌}
-use Rattle.cycle_sim.specs.Marks.{mark_at}
+use Rattle.cycle_sim.proofs.Common.{◌≡◌, ℕ, ◌*◌, ◌<◌, ◌≤◌, mark_at}
 use Rattle.cycle_sim.proofs.marks.first_marked.Given as goal
 
 abbrev pub invariant-loop-at : goal.invariant-loop-at

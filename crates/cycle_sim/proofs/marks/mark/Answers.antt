@@ -1,7 +1,4 @@
-use Rattle.std.proofs.Common.{ℕ, ◌/◌, ◌%◌, ◌<◌, ◌∙◌, ap, arith, w64}
-use Rattle.std.specs.Int.{bit_at}
-use Rattle.std.proofs.lemmas.List.{get_or_read}
-use Rattle.std.proofs.lemmas.Nat.Bits.{bit_at_set_same, bit_at_set_other}
+use Rattle.cycle_sim.proofs.Common.{ℕ, ◌/◌, ◌%◌, ◌<◌, ◌∙◌, ap, arith, w64, bit_at, get_or_read, bit_at_set_same, bit_at_set_other}
 use Rattle.cycle_sim.proofs.Marking.{mark-here, mark-other, set_bit}
 use Rattle.cycle_sim.proofs.marks.mark.Goals as goal
 

@@ -1,6 +1,4 @@
-use Rattle.std.proofs.Common.{ℕ, List, sym, ◌∙◌, subst}
-use Rattle.std.specs.List.{Contains}
-use Rattle.std.proofs.lemmas.List.{take_all}
+use Rattle.cycle_sim.proofs.Common.{ℕ, List, sym, ◌∙◌, subst, Contains, take_all}
 use Rattle.cycle_sim.proofs.Marking.{marked-more, others-more}
 use Rattle.cycle_sim.proofs.marks.mark_all.Goals as goal
 

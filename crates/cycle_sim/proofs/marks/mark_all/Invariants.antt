@@ -1,6 +1,4 @@
-use Rattle.std.proofs.Common.{◌≡◌, ℕ, length, take}
-use Rattle.std.specs.List.{Contains}
-use Rattle.cycle_sim.specs.Marks.{mark_at}
+use Rattle.cycle_sim.proofs.Common.{◌≡◌, ℕ, length, take, Contains, mark_at}
 use Rattle.cycle_sim.proofs.marks.mark_all.Given as goal
 
 abbrev pub invariant-loop-place : goal.invariant-loop-place

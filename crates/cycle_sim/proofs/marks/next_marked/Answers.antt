@@ -1,5 +1,4 @@
-use Rattle.std.proofs.Common.{◌*◌, ◌/◌, ◌%◌, ◌^◌, ◌+◌, ◌<◌, get_or, refl, inl, inr, arith}
-use Rattle.std.proofs.lemmas.Bool.{cases_lt}
+use Rattle.cycle_sim.proofs.Common.{◌*◌, ◌/◌, ◌%◌, ◌^◌, ◌+◌, ◌<◌, get_or, refl, inl, inr, arith, cases_lt}
 use Rattle.cycle_sim.proofs.Marking.{rest-small, none-in-word, first-before, first-is, first-inside}
 use Rattle.cycle_sim.proofs.marks.next_marked.Goals as goal
 

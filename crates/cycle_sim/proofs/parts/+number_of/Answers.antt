@@ -1,7 +1,4 @@
-use Rattle.std.proofs.Common.{◌≡◌, ℕ, ◌+◌, ◌-◌, ◌*◌, ◌%◌, ◌^◌, ◌<◌, ◌≤◌, false, List, length, take, drop, get_or, sym, ◌∙◌, ap, subst, arith}
-use Rattle.cycle_sim.specs.declared.parts.Source.TheVariants.{Constant}
-use Rattle.cycle_sim.specs.declared.parts.Part.{Part}
-use Rattle.cycle_sim.specs.Parts.{part_number, total}
+use Rattle.cycle_sim.proofs.Common.{◌≡◌, ℕ, ◌+◌, ◌-◌, ◌*◌, ◌%◌, ◌^◌, ◌<◌, ◌≤◌, false, List, length, take, drop, get_or, sym, ◌∙◌, ap, subst, arith, Constant, Part, part_number, total}
 use Rattle.cycle_sim.proofs.PartNumbers.{Stacks, stacks, first-number, first-total}
 use Rattle.cycle_sim.proofs.parts.+number_of.Goals as goal
 

@@ -1,8 +1,4 @@
-use Rattle.std.proofs.Common.{◌≡◌, ℕ, ◌-◌, ◌/◌, ◌^◌, ◌<◌, Bool, true, List, get_or, sym, subst, arith}
-use Rattle.std.proofs.lemmas.Nat.{mod_below, pow_pos}
-use Rattle.cycle_sim.specs.declared.parts.Source.{Source}
-use Rattle.cycle_sim.specs.declared.parts.Source.TheVariants.{Constant}
-use Rattle.cycle_sim.specs.Parts.{source_number}
+use Rattle.cycle_sim.proofs.Common.{◌≡◌, ℕ, ◌-◌, ◌/◌, ◌^◌, ◌<◌, Bool, true, List, get_or, sym, subst, arith, mod_below, pow_pos, Source, Constant, source_number}
 use Rattle.cycle_sim.proofs.PartNumbers.{ones-down, masked}
 use Rattle.cycle_sim.proofs.parts.number_at.Goals as goal
 

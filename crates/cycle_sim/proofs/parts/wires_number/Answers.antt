@@ -1,9 +1,5 @@
-use Rattle.std.proofs.Common.{◌≡◌, ℕ, ◌+◌, ◌*◌, ◌^◌, ◌<◌, List, [], ◌∷◌, length, sym, ◌∙◌, ap, subst, arith}
-use Rattle.cycle_sim.specs.declared.parts.Part.{Part}
-use Rattle.cycle_sim.specs.declared.parts.Reading.{Reading}
-use Rattle.cycle_sim.specs.declared.parts.Reading.TheVariants.{Number, Whole, Single}
-use Rattle.cycle_sim.specs.declared.parts.Wires.{Wires}
-use Rattle.cycle_sim.specs.Parts.{part_number, parts_number, total, AllInside, IsRead, IsReadable}
+use Rattle.cycle_sim.proofs.Common.{◌≡◌, ℕ, ◌+◌, ◌*◌, ◌^◌, ◌<◌, List, [], ◌∷◌, length, sym, ◌∙◌, ap, subst, arith, Part, Reading, Number, Whole, Single, Wires, part_number, parts_number, total}
+use Rattle.cycle_sim.proofs.Common.{AllInside, IsRead, IsReadable}
 use Rattle.cycle_sim.proofs.parts.wires_number.Goals as goal
 
 read-as : (table : List ℕ) (wires : Wires) (reading : Reading) → IsReadable table wires → wires.reading ≡ reading → IsRead table reading wires.width wires.parts

@@ -1,4 +1,4 @@
-use Rattle.std.proofs.Common.{arith}
+use Rattle.cycle_sim.proofs.Common.{arith}
 use Rattle.cycle_sim.proofs.Plans.{driving-few, driving-length}
 use Rattle.cycle_sim.proofs.places.driver_count.Goals as goal
 

@@ -1,9 +1,4 @@
-use Rattle.std.proofs.Common.{◌≡◌, ℕ, ◌<◌, ◌≤◌, false, List, [], ◌∷◌, length, get_or, sym, ◌∙◌, subst, refl, arith}
-use Rattle.std.proofs.lemmas.List.{length-set}
-use Rattle.netlist_core.specs.declared.bit.Bit.{Bit}
-use Rattle.netlist_core.specs.declared.bit.Bit.TheVariants.{Fixed, Net}
-use Rattle.netlist_core.specs.Drivers.{times}
-use Rattle.cycle_sim.specs.Places.{AreBelow}
+use Rattle.cycle_sim.proofs.Common.{◌≡◌, ℕ, ◌<◌, ◌≤◌, false, List, [], ◌∷◌, length, get_or, sym, ◌∙◌, subst, refl, arith, length-set, Bit, Fixed, Net, times, AreBelow}
 use Rattle.cycle_sim.proofs.Placed.{marked-net, marked-constant, times-self, times-at}
 use Rattle.cycle_sim.proofs.places.mark.Goals.{in-Net, in-Fixed}
 use Rattle.cycle_sim.proofs.places.mark.Goals as goal

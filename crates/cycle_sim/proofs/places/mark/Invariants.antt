@@ -1,5 +1,4 @@
-use Rattle.std.proofs.Common.{◌≡◌, length, take}
-use Rattle.cycle_sim.specs.Places.{AreMarked}
+use Rattle.cycle_sim.proofs.Common.{◌≡◌, length, take, AreMarked}
 use Rattle.cycle_sim.proofs.places.mark.Given as goal
 
 abbrev pub invariant-loop-i : goal.invariant-loop-i

@@ -1,9 +1,4 @@
-use Rattle.std.proofs.Common.{◌≡◌, ℕ, ◌<◌, ◌≤◌, List, [], length, get_or, sym, ◌∙◌, ap, subst, arith}
-use Rattle.netlist_core.specs.declared.bit.Bit.{Bit}
-use Rattle.netlist_core.specs.declared.raw.RawNetlist.{RawNetlist}
-use Rattle.netlist_core.specs.Drivers.{times}
-use Rattle.netlist_core.specs.Solutions.{driving}
-use Rattle.cycle_sim.specs.Places.{AreMarked}
+use Rattle.cycle_sim.proofs.Common.{◌≡◌, ℕ, ◌<◌, ◌≤◌, List, [], length, get_or, sym, ◌∙◌, ap, subst, arith, Bit, RawNetlist, times, driving, AreMarked}
 use Rattle.cycle_sim.proofs.Placed.{placed-more, times_at-at}
 use Rattle.cycle_sim.proofs.Plans.{driving-narrow, driven-below}
 use Rattle.cycle_sim.proofs.places.places_of.Goals as goal

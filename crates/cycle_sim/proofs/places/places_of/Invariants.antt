@@ -1,5 +1,4 @@
-use Rattle.std.proofs.Common.{◌≡◌, length}
-use Rattle.netlist_core.specs.Solutions.{driving}
+use Rattle.cycle_sim.proofs.Common.{◌≡◌, length, driving}
 use Rattle.cycle_sim.proofs.Placed.{FirstPlaced}
 use Rattle.cycle_sim.proofs.places.places_of.Given as goal
 

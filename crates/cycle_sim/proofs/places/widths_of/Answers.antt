@@ -1,8 +1,4 @@
-use Rattle.std.proofs.Common.{◌≡◌, ℕ, ◌+◌, ◌<◌, List, [], ◌∷◌, ◌++◌, map, length, take, get_or, sym, ◌∙◌, ap, arith}
-use Rattle.std.proofs.lemmas.List.{map-append, take_more, take_all}
-use Rattle.netlist_core.specs.declared.bit.Bit.{Bit}
-use Rattle.netlist_core.specs.declared.raw.RawNetlist.{RawNetlist}
-use Rattle.netlist_core.specs.Solutions.{driving}
+use Rattle.cycle_sim.proofs.Common.{◌≡◌, ℕ, ◌+◌, ◌<◌, List, [], ◌∷◌, ◌++◌, map, length, take, get_or, sym, ◌∙◌, ap, arith, map-append, take_more, take_all, Bit, RawNetlist, driving}
 use Rattle.cycle_sim.proofs.Plans.{driving-narrow}
 use Rattle.cycle_sim.proofs.places.widths_of.Goals as goal
 

@@ -1,5 +1,4 @@
-use Rattle.std.proofs.Common.{◌≡◌, map, length, take}
-use Rattle.netlist_core.specs.Solutions.{driving}
+use Rattle.cycle_sim.proofs.Common.{◌≡◌, map, length, take, driving}
 use Rattle.cycle_sim.proofs.places.widths_of.Given as goal
 
 abbrev pub invariant-loop-driver : goal.invariant-loop-driver

@@ -1,9 +1,4 @@
-use Rattle.std.proofs.Common.{◌≤◌, false, List, subst, arith}
-use Rattle.std.proofs.lemmas.List.{take_all}
-use Rattle.netlist_core.specs.declared.bit.Bit.{Bit}
-use Rattle.netlist_core.specs.declared.bit.Bit.TheVariants.{Fixed}
-use Rattle.netlist_core.specs.Drivers.{times}
-use Rattle.cycle_sim.specs.Marks.{AreAdded}
+use Rattle.cycle_sim.proofs.Common.{◌≤◌, false, List, subst, arith, take_all, Bit, Fixed, times, AreAdded}
 use Rattle.cycle_sim.proofs.ReaderLists.{added-none, net-some, bits-net, bits-constant}
 use Rattle.cycle_sim.proofs.readers.add_bits.Goals.{in-Fixed, in-Net+in_ok-add_net-in-Net}
 use Rattle.cycle_sim.proofs.readers.add_bits.Goals as goal

@@ -1,6 +1,4 @@
-use Rattle.std.proofs.Common.{◌≤◌, take}
-use Rattle.netlist_core.specs.Drivers.{times}
-use Rattle.cycle_sim.specs.Marks.{AreAdded}
+use Rattle.cycle_sim.proofs.Common.{◌≤◌, take, times, AreAdded}
 use Rattle.cycle_sim.proofs.readers.add_bits.Given as goal
 
 abbrev pub invariant-loop-bit : goal.invariant-loop-bit

@@ -1,8 +1,4 @@
-use Rattle.std.proofs.Common.{◌≡◌, ℕ, List, [], ◌∷◌, ◌++◌, get_or, set, refl, sym, ◌∙◌, ap, subst}
-use Rattle.std.specs.List.{Contains}
-use Rattle.std.proofs.lemmas.List.{get_or_read}
-use Rattle.cycle_sim.specs.Places.{place_of}
-use Rattle.cycle_sim.specs.Marks.{AreAdded}
+use Rattle.cycle_sim.proofs.Common.{◌≡◌, ℕ, List, [], ◌∷◌, ◌++◌, get_or, set, refl, sym, ◌∙◌, ap, subst, Contains, get_or_read, place_of, AreAdded}
 use Rattle.cycle_sim.proofs.ReaderLists.{net-there, net-added}
 use Rattle.cycle_sim.proofs.readers.add_net.Goals as goal
 

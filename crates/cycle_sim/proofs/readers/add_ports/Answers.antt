@@ -1,8 +1,4 @@
-use Rattle.std.proofs.Common.{◌≡◌, ℕ, ◌<◌, ◌≤◌, List, [], length, get_or, ◌∙◌, subst, arith}
-use Rattle.std.proofs.lemmas.List.{get_or_read, take_all}
-use Rattle.netlist_core.specs.declared.bit.Bit.{Bit}
-use Rattle.netlist_core.specs.Drivers.{times, times_at}
-use Rattle.cycle_sim.specs.Marks.{AreAdded}
+use Rattle.cycle_sim.proofs.Common.{◌≡◌, ℕ, ◌<◌, ◌≤◌, List, [], length, get_or, ◌∙◌, subst, arith, get_or_read, take_all, Bit, times, times_at, AreAdded}
 use Rattle.cycle_sim.proofs.Placed.{times_at-at}
 use Rattle.cycle_sim.proofs.ReaderLists.{added-none, ports-more}
 use Rattle.cycle_sim.proofs.readers.add_ports.Goals as goal

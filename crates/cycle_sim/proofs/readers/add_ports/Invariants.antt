@@ -1,6 +1,4 @@
-use Rattle.std.proofs.Common.{◌≤◌, take}
-use Rattle.netlist_core.specs.Drivers.{times_at}
-use Rattle.cycle_sim.specs.Marks.{AreAdded}
+use Rattle.cycle_sim.proofs.Common.{◌≤◌, take, times_at, AreAdded}
 use Rattle.cycle_sim.proofs.readers.add_ports.Given as goal
 
 abbrev pub invariant-loop-port : goal.invariant-loop-port

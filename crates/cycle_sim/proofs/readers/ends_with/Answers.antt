@@ -1,8 +1,5 @@
-use Rattle.std.proofs.Common.{◌≡◌, ℕ, ◌-◌, ◌≤◌, true, false, List, length, get_or, sym, ◌∙◌, inl, inr, arith}
-use Rattle.std.specs.Prelude.{IsTrue, nat_eq}
-use Rattle.std.specs.List.{Contains}
-use Rattle.std.proofs.lemmas.Bool.Decides.{eqb_tells}
-use Rattle.std.proofs.lemmas.List.{get_or_default}
+use Rattle.cycle_sim.proofs.Common.{◌≡◌, ℕ, ◌-◌, ◌≤◌, true, false, List, length, get_or, sym, ◌∙◌, inl, inr, arith, IsTrue, Contains, eqb_tells, get_or_default}
+use Rattle.std.specs.Prelude.{nat_eq}
 use Rattle.cycle_sim.proofs.readers.ends_with.Goals as goal
 
 is-last : (list : List ℕ) (place : ℕ) → 1 ≤ length list → IsTrue (nat_eq (get_or list (length list - 1) 0) place) → Contains list place

@@ -1,4 +1,4 @@
-use Rattle.std.proofs.Common.{◌≡◌, ◌≤◌, ◌-◌, [], length, replicate}
+use Rattle.cycle_sim.proofs.Common.{◌≡◌, ◌≤◌, ◌-◌, [], length, replicate}
 use Rattle.cycle_sim.proofs.readers.no_lists.Given as goal
 
 abbrev pub invariant-loop-alloc : goal.invariant-loop-alloc

@@ -1,4 +1,4 @@
-use Rattle.std.proofs.Common.{length}
+use Rattle.cycle_sim.proofs.Common.{length}
 use Rattle.cycle_sim.proofs.state.+have_widths.Given as goal
 
 abbrev pub decreases-have_widths : goal.decreases-have_widths

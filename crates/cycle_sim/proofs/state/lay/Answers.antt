@@ -1,5 +1,4 @@
-use Rattle.std.proofs.Common.{◌*◌, length, sym, ◌∙◌, arith}
-use Rattle.netlist_core.specs.Solutions.{driving}
+use Rattle.cycle_sim.proofs.Common.{◌*◌, length, sym, ◌∙◌, arith, driving}
 use Rattle.cycle_sim.proofs.Plans.{driving-length, fit-length}
 use Rattle.cycle_sim.proofs.Current.{readers-room, source-held}
 use Rattle.cycle_sim.proofs.state.lay.Goals as goal

@@ -1,8 +1,5 @@
-use Rattle.std.proofs.Common.{◌≡◌, ℕ, ◌+◌, ◌^◌, ◌<◌, ◌≤◌, List, [], ◌++◌, map, length, take, drop, get_or, set, sym, ◌∙◌, ap, subst, arith}
-use Rattle.std.specs.Prelude.{slice_index}
-use Rattle.std.proofs.lemmas.List.{length-map, take-map}
-use Rattle.netlist_core.specs.Solutions.{driving}
-use Rattle.cycle_sim.specs.Simulated.{numbers_of}
+use Rattle.cycle_sim.proofs.Common.{◌≡◌, ℕ, ◌+◌, ◌^◌, ◌<◌, ◌≤◌, List, [], ◌++◌, map, length, take, drop, get_or, set, sym, ◌∙◌, ap, subst, arith, slice_index, length-map, take-map, driving}
+use Rattle.cycle_sim.proofs.Common.{numbers_of}
 use Rattle.cycle_sim.proofs.Lists.{laid-more}
 use Rattle.cycle_sim.proofs.Plans.{driving-length, fit-length}
 use Rattle.cycle_sim.proofs.Fronts.{named-inside, named-small, named-bits}

@@ -1,7 +1,4 @@
-use Rattle.std.proofs.Common.{◌≡◌, ◌++◌, map, take, drop}
-use Rattle.std.specs.Prelude.{slice_index}
-use Rattle.cycle_sim.specs.Simulated.{numbers_of}
-use Rattle.cycle_sim.specs.Marks.{AreHeld}
+use Rattle.cycle_sim.proofs.Common.{◌≡◌, ◌++◌, map, take, drop, slice_index, numbers_of, AreHeld}
 use Rattle.cycle_sim.proofs.state.lay_named.Given as goal
 
 abbrev pub invariant-loop-i : goal.invariant-loop-i

@@ -1,7 +1,4 @@
-use Rattle.std.proofs.Common.{◌≡◌, ℕ, ◌+◌, ◌^◌, ◌<◌, [], length, get_or, set, refl, sym, ◌∙◌, ap, subst, arith}
-use Rattle.netlist_core.specs.declared.raw.RawNetlist.{RawNetlist}
-use Rattle.netlist_core.specs.Runs.{q_bits}
-use Rattle.netlist_core.specs.Solutions.{driving}
+use Rattle.cycle_sim.proofs.Common.{◌≡◌, ℕ, ◌+◌, ◌^◌, ◌<◌, [], length, get_or, set, refl, sym, ◌∙◌, ap, subst, arith, RawNetlist, q_bits, driving}
 use Rattle.cycle_sim.proofs.Lists.{laid-more}
 use Rattle.cycle_sim.proofs.Plans.{driving-length, fit-length}
 use Rattle.cycle_sim.proofs.Fronts.{stored-inside, stored-small}

@@ -1,5 +1,4 @@
-use Rattle.std.proofs.Common.{◌≡◌, ◌+◌, ◌++◌, take, drop, length}
-use Rattle.cycle_sim.specs.Marks.{AreHeld}
+use Rattle.cycle_sim.proofs.Common.{◌≡◌, ◌+◌, ◌++◌, take, drop, length, AreHeld}
 use Rattle.cycle_sim.proofs.state.lay_registers.Given as goal
 
 abbrev pub invariant-loop-i : goal.invariant-loop-i

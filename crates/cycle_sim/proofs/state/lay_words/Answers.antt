@@ -1,5 +1,4 @@
-use Rattle.std.proofs.Common.{ℕ, ◌^◌, ◌<◌, [], length, get_or, sym, ◌∙◌, subst, arith}
-use Rattle.netlist_core.specs.Solutions.{driving}
+use Rattle.cycle_sim.proofs.Common.{ℕ, ◌^◌, ◌<◌, [], length, get_or, sym, ◌∙◌, subst, arith, driving}
 use Rattle.cycle_sim.proofs.Lists.{copied}
 use Rattle.cycle_sim.proofs.Plans.{driving-length, fit-length}
 use Rattle.cycle_sim.proofs.Fronts.{word-inside, word-small}

@@ -1,6 +1,4 @@
-use Rattle.std.proofs.Common.{◌≡◌, ◌++◌, take, drop}
-use Rattle.cycle_sim.specs.Simulated.{numbers_of}
-use Rattle.cycle_sim.specs.Marks.{AreHeld}
+use Rattle.cycle_sim.proofs.Common.{◌≡◌, ◌++◌, take, drop, numbers_of, AreHeld}
 use Rattle.cycle_sim.proofs.state.lay_words.Given as goal
 
 abbrev pub invariant-loop-i : goal.invariant-loop-i

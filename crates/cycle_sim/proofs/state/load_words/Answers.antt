@@ -1,5 +1,4 @@
-use Rattle.std.proofs.Common.{◌∙◌}
-use Rattle.std.proofs.lemmas.List.{length-set}
+use Rattle.cycle_sim.proofs.Common.{◌∙◌, length-set}
 use Rattle.cycle_sim.proofs.Lists.{copied}
 use Rattle.cycle_sim.proofs.state.load_words.Goals as goal
 

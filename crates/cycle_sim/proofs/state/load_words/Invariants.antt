@@ -1,5 +1,4 @@
-use Rattle.std.proofs.Common.{◌≡◌, ◌++◌, take, drop, length}
-use Rattle.cycle_sim.specs.Simulated.{numbers_of}
+use Rattle.cycle_sim.proofs.Common.{◌≡◌, ◌++◌, take, drop, length, numbers_of}
 use Rattle.cycle_sim.proofs.state.load_words.Given as goal
 
 abbrev pub invariant-loop-i : goal.invariant-loop-i

@@ -1,4 +1,4 @@
-use Rattle.std.proofs.Common.{◌≡◌, map, take}
+use Rattle.cycle_sim.proofs.Common.{◌≡◌, map, take}
 use Rattle.cycle_sim.proofs.state.starts.Given as goal
 
 abbrev pub invariant-loop-register : goal.invariant-loop-register

@@ -1,11 +1,4 @@
-use Rattle.std.proofs.Common.{◌≡◌, ℕ, ◌<◌, List, length, get_or, ◌∙◌, ap, subst, arith}
-use Rattle.std.proofs.lemmas.List.{length-set}
-use Rattle.netlist_core.specs.declared.port.Register.{Register}
-use Rattle.netlist_core.specs.declared.raw.RawNetlist.{RawNetlist}
-use Rattle.netlist_core.specs.Numbers.{number}
-use Rattle.netlist_core.specs.Runs.{values, d_bits}
-use Rattle.netlist_core.specs.Solutions.{driving}
-use Rattle.cycle_sim.specs.Simulated.{nets_of}
+use Rattle.cycle_sim.proofs.Common.{◌≡◌, ℕ, ◌<◌, List, length, get_or, ◌∙◌, ap, subst, arith, length-set, Register, RawNetlist, number, values, d_bits, driving, nets_of}
 use Rattle.cycle_sim.proofs.Lists.{took}
 use Rattle.cycle_sim.proofs.Wired.{wired-length}
 use Rattle.cycle_sim.proofs.Computed.{item-some}

@@ -1,6 +1,4 @@
-use Rattle.std.proofs.Common.{◌≡◌, ◌≤◌, ◌++◌, take, drop, length}
-use Rattle.netlist_core.specs.Runs.{plain, taken}
-use Rattle.cycle_sim.specs.Simulated.{nets_of}
+use Rattle.cycle_sim.proofs.Common.{◌≡◌, ◌≤◌, ◌++◌, take, drop, length, plain, taken, nets_of}
 use Rattle.cycle_sim.proofs.state.take_all.Given as goal
 
 abbrev pub invariant-loop-i : goal.invariant-loop-i

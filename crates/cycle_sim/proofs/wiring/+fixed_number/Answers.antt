@@ -1,11 +1,5 @@
-use Rattle.std.proofs.Common.{◌≡◌, ℕ, ◌+◌, ◌-◌, ◌*◌, ◌^◌, ◌<◌, ◌≤◌, Bool, false, List, [], ◌∷◌, length, take, drop, get_or, refl, ap, subst, arith}
-use Rattle.std.proofs.lemmas.Nat.{pow_pos}
-use Rattle.std.proofs.lemmas.List.{take_all}
-use Rattle.std.proofs.Math.Nat.{pow-le-pow_right}
-use Rattle.netlist_core.specs.declared.bit.Bit.{Bit}
-use Rattle.netlist_core.specs.declared.bit.Bit.TheVariants.{Fixed}
-use Rattle.netlist_core.specs.Numbers.{digit, number}
-use Rattle.netlist_core.specs.Runs.{Nets, bit_value, values}
+use Rattle.cycle_sim.proofs.Common.{◌≡◌, ℕ, ◌+◌, ◌-◌, ◌*◌, ◌^◌, ◌<◌, ◌≤◌, Bool, false, List, [], ◌∷◌, length, take, drop, get_or, refl, ap, subst, arith, pow_pos, take_all, pow-le-pow_right, Bit}
+use Rattle.cycle_sim.proofs.Common.{Fixed, digit, number, Nets, bit_value, values}
 use Rattle.cycle_sim.proofs.PartNumbers.{pow-next}
 use Rattle.cycle_sim.proofs.wiring.+fixed_number.Goals as goal
 

@@ -1,7 +1,4 @@
-use Rattle.std.proofs.Common.{◌≡◌, ◌+◌, List, [], ◌∷◌, ◌++◌, option_to_list, Option, sym, ◌∙◌, ap, subst, refl}
-use Rattle.netlist_core.specs.declared.bit.Bit.{Bit}
-use Rattle.cycle_sim.specs.declared.parts.Part.{Part}
-use Rattle.cycle_sim.specs.Parts.{AllWhole}
+use Rattle.cycle_sim.proofs.Common.{◌≡◌, ◌+◌, List, [], ◌∷◌, ◌++◌, option_to_list, Option, sym, ◌∙◌, ap, subst, refl, Bit, Part, AllWhole}
 use Rattle.cycle_sim.proofs.Growing.{IsGrown, grown-one, grown-last, whole-last}
 use Rattle.cycle_sim.proofs.wiring.add_bit.Goals as goal
 

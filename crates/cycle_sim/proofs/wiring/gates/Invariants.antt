@@ -1,6 +1,4 @@
-use Rattle.std.proofs.Common.{take}
-use Rattle.netlist_core.specs.Solutions.{driving}
-use Rattle.cycle_sim.specs.Gates.{AllGates}
+use Rattle.cycle_sim.proofs.Common.{take, driving, AllGates}
 use Rattle.cycle_sim.proofs.wiring.gates.Given as goal
 
 abbrev pub invariant-loop-cell : goal.invariant-loop-cell

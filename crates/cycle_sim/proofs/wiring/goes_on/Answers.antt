@@ -1,4 +1,4 @@
-use Rattle.std.proofs.Common.{◌≡◌, ◌+◌, arith}
+use Rattle.cycle_sim.proofs.Common.{◌≡◌, ◌+◌, arith}
 use Rattle.std.proofs.lemmas.Grind.{common_steps}
 use Rattle.cycle_sim.proofs.Growing.{goes-driver}
 use Rattle.cycle_sim.proofs.wiring.goes_on.Goals as goal

@@ -1,10 +1,4 @@
-use Rattle.std.proofs.Common.{◌≡◌, ℕ, ◌<◌, ◌≤◌, List, [], length, get_or, sym, ◌∙◌, ap, subst, arith}
-use Rattle.netlist_core.specs.declared.bit.Bit.{Bit}
-use Rattle.netlist_core.specs.declared.port.Register.{Register}
-use Rattle.netlist_core.specs.declared.raw.RawNetlist.{RawNetlist}
-use Rattle.netlist_core.specs.Runs.{d_bits}
-use Rattle.netlist_core.specs.Drivers.{times}
-use Rattle.netlist_core.specs.Solutions.{driving}
+use Rattle.cycle_sim.proofs.Common.{◌≡◌, ℕ, ◌<◌, ◌≤◌, List, [], length, get_or, sym, ◌∙◌, ap, subst, arith, Bit, Register, RawNetlist, d_bits, times, driving}
 use Rattle.cycle_sim.proofs.Reading.{read-below, read-placed, d-at, d-inside, d-read, d-narrow, wired-more}
 use Rattle.cycle_sim.proofs.wiring.next_wires.Goals as goal
 

@@ -1,7 +1,4 @@
-use Rattle.std.proofs.Common.{take}
-use Rattle.netlist_core.specs.Runs.{d_bits}
-use Rattle.netlist_core.specs.Solutions.{driving}
-use Rattle.cycle_sim.specs.Parts.{AllWired}
+use Rattle.cycle_sim.proofs.Common.{take, d_bits, driving, AllWired}
 use Rattle.cycle_sim.proofs.wiring.next_wires.Given as goal
 
 abbrev pub invariant-loop-register : goal.invariant-loop-register

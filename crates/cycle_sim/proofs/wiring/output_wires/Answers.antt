@@ -1,10 +1,5 @@
-use Rattle.std.proofs.Common.{◌≡◌, ℕ, ◌<◌, ◌≤◌, List, [], length, get_or, sym, ◌∙◌, ap, subst, arith}
-use Rattle.netlist_core.specs.declared.bit.Bit.{Bit}
+use Rattle.cycle_sim.proofs.Common.{◌≡◌, ℕ, ◌<◌, ◌≤◌, List, [], length, get_or, sym, ◌∙◌, ap, subst, arith, Bit, RawNetlist, bits_at, times, driving}
 use Rattle.netlist_core.specs.declared.port.Port as port
-use Rattle.netlist_core.specs.declared.raw.RawNetlist.{RawNetlist}
-use Rattle.netlist_core.specs.Runs.{bits_at}
-use Rattle.netlist_core.specs.Drivers.{times}
-use Rattle.netlist_core.specs.Solutions.{driving}
 use Rattle.cycle_sim.proofs.Reading.{read-below, read-placed, output-at, output-inside, output-read, output-narrow, wired-more}
 use Rattle.cycle_sim.proofs.wiring.output_wires.Goals as goal
 

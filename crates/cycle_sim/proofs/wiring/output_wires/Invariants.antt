@@ -1,7 +1,4 @@
-use Rattle.std.proofs.Common.{take}
-use Rattle.netlist_core.specs.Runs.{bits_at}
-use Rattle.netlist_core.specs.Solutions.{driving}
-use Rattle.cycle_sim.specs.Parts.{AllWired}
+use Rattle.cycle_sim.proofs.Common.{take, bits_at, driving, AllWired}
 use Rattle.cycle_sim.proofs.wiring.output_wires.Given as goal
 
 abbrev pub invariant-loop-port : goal.invariant-loop-port

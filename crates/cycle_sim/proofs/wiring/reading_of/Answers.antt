@@ -1,10 +1,4 @@
-use Rattle.std.proofs.Common.{◌≡◌, false, List, [], ◌∷◌, length, get_or, sym, ◌∙◌, subst, arith}
-use Rattle.std.proofs.lemmas.List.{append-nil}
-use Rattle.netlist_core.specs.declared.bit.Bit.{Bit}
-use Rattle.cycle_sim.specs.declared.parts.Source.TheVariants.{Constant}
-use Rattle.cycle_sim.specs.declared.parts.Part.{Part}
-use Rattle.cycle_sim.specs.declared.parts.Reading.{Reading}
-use Rattle.cycle_sim.specs.Parts.{part_bits, all_bits, IsReading}
+use Rattle.cycle_sim.proofs.Common.{◌≡◌, false, List, [], ◌∷◌, length, get_or, sym, ◌∙◌, subst, arith, append-nil, Bit, Constant, Part, Reading, part_bits, all_bits, IsReading}
 use Rattle.cycle_sim.proofs.wiring.reading_of.Goals as goal
 
 abbrev none : Part

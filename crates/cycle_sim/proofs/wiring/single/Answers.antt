@@ -1,11 +1,5 @@
-use Rattle.std.proofs.Common.{◌≡◌, ℕ, ◌<◌, List, [], map, length, take, drop, get_or, sym, ◌∙◌, ap, arith}
-use Rattle.std.proofs.lemmas.List.{length-map, get_or-map, take_all}
-use Rattle.netlist_core.specs.declared.bit.Bit.{Bit}
-use Rattle.cycle_sim.specs.declared.parts.Place.{Place}
-use Rattle.cycle_sim.specs.declared.parts.Source.{Source}
-use Rattle.cycle_sim.specs.declared.parts.Source.TheVariants.{Driver}
-use Rattle.cycle_sim.specs.declared.parts.Part.{Part}
-use Rattle.cycle_sim.specs.Parts.{source_bits, part_bits}
+use Rattle.cycle_sim.proofs.Common.{◌≡◌, ℕ, ◌<◌, List, [], map, length, take, drop, get_or, sym, ◌∙◌, ap, arith, length-map, get_or-map, take_all, Bit, Place, Source, Driver, Part, source_bits}
+use Rattle.cycle_sim.proofs.Common.{part_bits}
 use Rattle.cycle_sim.proofs.wiring.single.Goals as goal
 
 -- a part that begins with a driver's first bit and is as wide as it is the driver

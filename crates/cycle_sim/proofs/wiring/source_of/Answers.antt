@@ -1,9 +1,4 @@
-use Rattle.std.proofs.Common.{◌≡◌, ℕ, ◌≤◌, [], ◌∷◌, get_or, sym, ◌∙◌, ap, subst}
-use Rattle.netlist_core.specs.declared.bit.Bit.{Bit}
-use Rattle.netlist_core.specs.declared.bit.Bit.TheVariants.{Net}
-use Rattle.netlist_core.specs.Drivers.{times}
-use Rattle.cycle_sim.specs.declared.parts.Place.{Place}
-use Rattle.cycle_sim.specs.Places.{place_of}
+use Rattle.cycle_sim.proofs.Common.{◌≡◌, ℕ, ◌≤◌, [], ◌∷◌, get_or, sym, ◌∙◌, ap, subst, Bit, Net, times, Place, place_of}
 use Rattle.cycle_sim.proofs.Placed.{times-self}
 use Rattle.cycle_sim.proofs.Growing.{one-bit}
 use Rattle.cycle_sim.proofs.wiring.source_of.Goals as goal

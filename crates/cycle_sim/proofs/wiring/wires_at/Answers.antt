@@ -1,7 +1,4 @@
-use Rattle.std.proofs.Common.{◌≡◌, ℕ, ◌<◌, ◌≤◌, List, [], length, get_or, ◌∙◌, subst, arith}
-use Rattle.std.proofs.lemmas.List.{get_or_read}
-use Rattle.netlist_core.specs.declared.bit.Bit.{Bit}
-use Rattle.netlist_core.specs.Drivers.{times, times_at}
+use Rattle.cycle_sim.proofs.Common.{◌≡◌, ℕ, ◌<◌, ◌≤◌, List, [], length, get_or, ◌∙◌, subst, arith, get_or_read, Bit, times, times_at}
 use Rattle.cycle_sim.proofs.Placed.{times_at-at}
 use Rattle.cycle_sim.proofs.Reading.{wired-more}
 use Rattle.cycle_sim.proofs.wiring.wires_at.Goals as goal

@@ -1,7 +1,4 @@
-use Rattle.std.proofs.Common.{◌≡◌, List, map, length, take}
-use Rattle.netlist_core.specs.declared.bit.Bit.{Bit}
-use Rattle.cycle_sim.specs.Parts.{AllWired}
-use Rattle.cycle_sim.specs.Places.{ArePortsPlaced}
+use Rattle.cycle_sim.proofs.Common.{◌≡◌, List, map, length, take, Bit, AllWired, ArePortsPlaced}
 use Rattle.cycle_sim.proofs.wiring.wires_at.Given as goal
 
 abbrev pub invariant-loop-port : goal.invariant-loop-port

@@ -1,10 +1,5 @@
-use Rattle.std.proofs.Common.{◌≡◌, ℕ, ◌<◌, ◌≤◌, false, List, [], ◌∷◌, ◌++◌, length, take, get_or, sym, ◌∙◌, ap, subst, refl, arith}
-use Rattle.std.proofs.lemmas.List.{take_more, take_all}
-use Rattle.netlist_core.specs.declared.bit.Bit.{Bit}
-use Rattle.netlist_core.specs.declared.bit.Bit.TheVariants.{Fixed}
-use Rattle.netlist_core.specs.Drivers.{times}
-use Rattle.cycle_sim.specs.declared.parts.Part.{Part}
-use Rattle.cycle_sim.specs.Parts.{all_bits, AllWhole, IsReading}
+use Rattle.cycle_sim.proofs.Common.{◌≡◌, ℕ, ◌<◌, ◌≤◌, false, List, [], ◌∷◌, ◌++◌, length, take, get_or, sym, ◌∙◌, ap, subst, refl, arith, take_more, take_all, Bit, Fixed, times, Part, all_bits}
+use Rattle.cycle_sim.proofs.Common.{AllWhole, IsReading}
 use Rattle.cycle_sim.proofs.Placed.{times-at}
 use Rattle.cycle_sim.proofs.wiring.wires_of.Goals as goal
 

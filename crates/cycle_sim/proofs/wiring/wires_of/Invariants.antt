@@ -1,7 +1,4 @@
-use Rattle.std.proofs.Common.{◌≡◌, List, take}
-use Rattle.netlist_core.specs.declared.bit.Bit.{Bit}
-use Rattle.cycle_sim.specs.Parts.{all_bits, AllWhole}
-use Rattle.cycle_sim.specs.Places.{ArePlaced}
+use Rattle.cycle_sim.proofs.Common.{◌≡◌, List, take, Bit, all_bits, AllWhole, ArePlaced}
 use Rattle.cycle_sim.proofs.wiring.wires_of.Given as goal
 
 abbrev pub invariant-loop-bit : goal.invariant-loop-bit

@@ -1,25 +1,14 @@
-use Rattle.std.proofs.Common.{◌≡◌, ◌∙◌, ◌++◌, List, length, refl, sym, ap, arith, rules, add-one}
-use Rattle.std.proofs.lemmas.Result.{IfOk-weaker, IfErr-weaker}
-use Rattle.netlist_core.specs.declared.bit.Bit.{Bit}
-use Rattle.std.proofs.lemmas.List.{take_all}
-use Rattle.vlog_syntax.specs.Places.{first_token}
-use Rattle.vlog_syntax.specs.declared.expr.Expr.TheViews.{the_lemmas}
-use Rattle.vlog_meaning.specs.declared.shapes.Shape.{Shape}
-use Rattle.vlog_meaning.specs.Integers.{bound_integer}
-use Rattle.vlog_meaning.specs.Operators.{sizing}
-use Rattle.vlog_meaning.specs.Scopes.{names_of}
-use Rattle.vlog_meaning.specs.Senses.{sense, senses, total_width, joined}
-use Rattle.vlog_meaning.proofs.Contexts.{own_context, context_sized}
+use Rattle.elab_expr.proofs.Common.{◌≡◌, ◌∙◌, ◌++◌, List, length, refl, sym, ap, arith, rules, add-one, IfOk-weaker, IfErr-weaker, Bit, take_all, first_token, the_lemmas, Shape, bound_integer, sizing}
+use Rattle.elab_expr.proofs.Common.{names_of, sense, senses, total_width, joined, own_context, context_sized, index_width, plans, all_cells, below_later, grown_nets, grows_again, showing, layout}
+use Rattle.elab_expr.proofs.Common.{lay_arms, lay_condition}
 use Rattle.vlog_meaning.proofs.Whole as whole
 use Rattle.vlog_meaning.proofs.Whole.{element_whole}
-use Rattle.expr_plans.specs.Made.{index_width, plans, all_cells}
 use Rattle.elab_expr.proofs.Growing.{folded_evaluates, held, signals_kept, short_before, short_after}
 use Rattle.elab_expr.proofs.Operands.{sized_as, operand_is, left_is, right_is, right_fits, element_supported, both_ok, place_built}
 use Rattle.net_builder.proofs.Handed.{same_err}
-use Rattle.net_builder.proofs.Parts.{below_later, grown_nets, grows_again}
-use Rattle.elab_expr.proofs.Arms.{same_short, unary_cells_are, unary_built, binary_cells_are, binary_built, condition_cells_are, condition_built, choice_adds, conditional_built, pick_cells_are, pick_built, joins_none, joins_more, joins_short, joined_extended, joined_fits, replicated_built}
+use Rattle.elab_expr.proofs.Arms.{same_short, unary_cells_are, unary_built, binary_cells_are, binary_built, condition_cells_are, condition_built, choice_adds, conditional_built, pick_cells_are}
+use Rattle.elab_expr.proofs.Arms.{pick_built, joins_none, joins_more, joins_short, joined_extended, joined_fits, replicated_built}
 use Rattle.elab_expr.proofs.Facts as fact
-use Rattle.elab_expr.specs.Laid.{showing, layout, lay_arms, lay_condition}
 use Rattle.elab_expr.proofs.Netlists as net
 use Rattle.elab_expr.proofs.Netlists.{parts_more}
 use Rattle.elab_expr.proofs.build.+build.Goals as goal

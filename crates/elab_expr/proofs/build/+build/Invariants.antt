@@ -1,7 +1,4 @@
-use Rattle.std.proofs.Common.{◌≡◌, ◌+◌, ◌*◌, [], max, take}
-use Rattle.vlog_syntax.specs.declared.expr.Expr.TheViews.{size-Expr}
-use Rattle.vlog_meaning.specs.Scopes.{names_of}
-use Rattle.elab_expr.specs.Laid.{lay_parts, layouts, showing}
+use Rattle.elab_expr.proofs.Common.{◌≡◌, ◌+◌, ◌*◌, [], max, take, size-Expr, names_of, lay_parts, layouts, showing}
 use Rattle.elab_expr.proofs.Arms.{Joins}
 use Rattle.elab_expr.proofs.build.+build.Given as goal
 

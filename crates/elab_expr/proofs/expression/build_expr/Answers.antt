@@ -1,4 +1,4 @@
-use Rattle.vlog_meaning.specs.Scopes.{names_of}
+use Rattle.elab_expr.proofs.Common.{names_of}
 use Rattle.elab_expr.proofs.Refused.{fine, not_clear}
 use Rattle.elab_expr.proofs.expression.build_expr.Goals as goal
 

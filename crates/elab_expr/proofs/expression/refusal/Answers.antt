@@ -1,11 +1,4 @@
-use Rattle.std.proofs.Common.{◌∙◌, ◌++◌, sym, map}
-use Rattle.vlog_meaning.specs.declared.fault.Cause.TheVariants.{DivideByZero}
-use Rattle.vlog_meaning.specs.Scopes.{names_of}
-use Rattle.vlog_meaning.specs.Senses.{sense, fault}
-use Rattle.vlog_meaning.proofs.Blanks.{left_nil}
-use Rattle.vlog_meaning.proofs.Firsts.{least_none}
-use Rattle.vlog_meaning.proofs.Refusals.{kept, passed}
-use Rattle.expr_plans.specs.Made.{plan}
+use Rattle.elab_expr.proofs.Common.{◌∙◌, ◌++◌, sym, map, DivideByZero, names_of, sense, fault, left_nil, least_none, kept, passed, plan}
 use Rattle.elab_expr.proofs.expression.refusal.Goals as goal
 
 pub zero_in-requires-clause-whole : goal.zero_in-requires-clause-whole

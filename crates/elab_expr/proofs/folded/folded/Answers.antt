@@ -1,9 +1,4 @@
-use Rattle.std.proofs.Common.{◌∙◌, []}
-use Rattle.vlog_meaning.specs.Scopes.{names_of, store_of}
-use Rattle.expr_plans.proofs.Plans.{constant_value}
-use Rattle.std.proofs.Common.{ap}
-use Rattle.vlog_meaning.specs.Scopes.{nothing}
-use Rattle.elab_expr.specs.Laid.{number_bits}
+use Rattle.elab_expr.proofs.Common.{◌∙◌, [], names_of, store_of, constant_value, ap, nothing, number_bits}
 use Rattle.elab_expr.proofs.folded.folded.Goals as goal
 
 pub returns-clause-value : goal.returns-clause-value

@@ -1,7 +1,4 @@
-use Rattle.std.proofs.Common.{ap, ◌∙◌}
-use Rattle.vlog_meaning.specs.Scopes.{decl_value}
-use Rattle.net_builder.specs.Building.{store}
-use Rattle.elab_expr.specs.Laid.{name_bits}
+use Rattle.elab_expr.proofs.Common.{ap, ◌∙◌, decl_value, store, name_bits}
 use Rattle.elab_expr.proofs.names.name_bits.Goals as goal
 
 pub returns-in_ok-constant_bits-in-Some-Constant-clause-below : goal.returns-in_ok-constant_bits-in-Some-Constant-clause-below

@@ -1,8 +1,5 @@
-use Rattle.vlog_meaning.specs.Scopes.{names_of, decl_shape}
+use Rattle.elab_expr.proofs.Common.{names_of, decl_shape, ◌∙◌, List, ap, Bit, widened}
 use Rattle.elab_expr.proofs.Adding.{named_holds}
-use Rattle.std.proofs.Common.{◌∙◌, List, ap}
-use Rattle.netlist_core.specs.declared.bit.Bit.{Bit}
-use Rattle.elab_expr.specs.Laid.{widened}
 use Rattle.elab_expr.proofs.names.named.Goals as goal
 
 pub returns-clause-holds : goal.returns-clause-holds

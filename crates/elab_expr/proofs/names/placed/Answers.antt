@@ -1,9 +1,5 @@
-use Rattle.vlog_meaning.specs.Integers.{bound_integer}
-use Rattle.vlog_meaning.specs.Scopes.{names_of, decl_low}
+use Rattle.elab_expr.proofs.Common.{bound_integer, names_of, decl_low, ◌∙◌, ◌-ℤ◌, pos, ℕ, List, ap, false, Bit, bits_from, name_bits, widened}
 use Rattle.elab_expr.proofs.Adding.{placed_holds}
-use Rattle.std.proofs.Common.{◌∙◌, ◌-ℤ◌, pos, ℕ, List, ap, false}
-use Rattle.netlist_core.specs.declared.bit.Bit.{Bit}
-use Rattle.elab_expr.specs.Laid.{bits_from, name_bits, widened}
 use Rattle.elab_expr.proofs.names.placed.Goals as goal
 
 pub returns-clause-holds : goal.returns-clause-holds

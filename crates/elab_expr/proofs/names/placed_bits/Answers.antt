@@ -1,8 +1,5 @@
-use Rattle.std.proofs.Common.{◌∙◌, arith}
+use Rattle.elab_expr.proofs.Common.{◌∙◌, arith, List, ap, false, Bit, widened}
 use Rattle.elab_expr.proofs.Adding.{zeros_above}
-use Rattle.std.proofs.Common.{List, ap, false}
-use Rattle.netlist_core.specs.declared.bit.Bit.{Bit}
-use Rattle.elab_expr.specs.Laid.{widened}
 use Rattle.elab_expr.proofs.names.placed_bits.Goals as goal
 
 pub returns-clause-value : goal.returns-clause-value

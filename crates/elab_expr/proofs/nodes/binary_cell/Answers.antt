@@ -1,5 +1,4 @@
-use Rattle.std.proofs.Common.{ap, ◌∙◌}
-use Rattle.net_builder.specs.Building.{fresh_bits}
+use Rattle.elab_expr.proofs.Common.{ap, ◌∙◌, fresh_bits}
 use Rattle.elab_expr.proofs.NodeLemmas.{binary_shows}
 use Rattle.elab_expr.proofs.nodes.binary_cell.Goals as goal
 

@@ -1,4 +1,4 @@
-use Rattle.std.proofs.Common.{◌∙◌, sym}
+use Rattle.elab_expr.proofs.Common.{◌∙◌, sym}
 use Rattle.elab_expr.proofs.Adding.{binary_adds, fresh_long}
 use Rattle.elab_expr.proofs.Showing.{binary_shown}
 use Rattle.elab_expr.proofs.operators.binary_bits.Goals as goal

@@ -1,6 +1,5 @@
-use Rattle.std.proofs.Common.{◌∙◌, ap, length}
+use Rattle.elab_expr.proofs.Common.{◌∙◌, ap, length, length_fresh}
 use Rattle.elab_expr.proofs.Adding.{ror_adds, bit_adds}
-use Rattle.net_builder.proofs.Parts.{length_fresh}
 use Rattle.elab_expr.proofs.Showing.{ror_shown, bit_shown}
 use Rattle.elab_expr.proofs.operators.condition_bits.Goals as goal
 

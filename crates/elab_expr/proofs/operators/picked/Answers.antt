@@ -1,10 +1,4 @@
-use Rattle.std.proofs.lemmas.Result.{IfOk-weaker}
-use Rattle.vlog_meaning.specs.Scopes.{names_of}
-use Rattle.netlist_core.specs.Numbers.{number}
-use Rattle.netlist_core.specs.Runs.{values}
-use Rattle.vlog_meaning.specs.Integers.{extended}
-use Rattle.expr_plans.specs.Made.{index_width}
-use Rattle.elab_expr.specs.Laid.{index_bits}
+use Rattle.elab_expr.proofs.Common.{IfOk-weaker, names_of, number, values, extended, index_width, index_bits}
 use Rattle.elab_expr.proofs.Adding.{picked_adds}
 use Rattle.elab_expr.proofs.Showing.{picked_shown}
 use Rattle.elab_expr.proofs.operators.picked.Goals as goal

@@ -1,4 +1,4 @@
-use Rattle.std.proofs.Common.{sym}
+use Rattle.elab_expr.proofs.Common.{sym}
 use Rattle.elab_expr.proofs.Adding.{unary_adds, plus_adds, fresh_long}
 use Rattle.elab_expr.proofs.Showing.{unary_shown, plus_shown}
 use Rattle.elab_expr.proofs.operators.unary_bits.Goals as goal

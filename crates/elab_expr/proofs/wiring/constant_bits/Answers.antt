@@ -1,9 +1,4 @@
-use Rattle.std.proofs.Common.{◌-◌, ◌+◌, ◌%◌, nat_eq, List, arith, ap, ◌∙◌, subst, sym}
-use Rattle.net_builder.specs.Building.{AllBelow}
-use Rattle.netlist_core.specs.declared.bit.Bit.{Bit}
-use Rattle.netlist_core.specs.declared.bit.Bit.TheVariants.{Fixed}
-use Rattle.netlist_core.specs.Numbers.{number}
-use Rattle.netlist_core.specs.Runs.{values}
+use Rattle.elab_expr.proofs.Common.{◌-◌, ◌+◌, ◌%◌, nat_eq, List, arith, ap, ◌∙◌, subst, sym, AllBelow, Bit, Fixed, number, values}
 use Rattle.elab_expr.proofs.Bits.{none_left, half_small, laid_more}
 use Rattle.elab_expr.proofs.Selects.{below_one}
 use Rattle.elab_expr.proofs.Wires.{number_more, number_done}

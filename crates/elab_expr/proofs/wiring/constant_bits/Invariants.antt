@@ -1,8 +1,4 @@
-use Rattle.std.proofs.Common.{◌≡◌, ◌+◌, ◌-◌, ◌*◌, ◌<◌, ◌^◌, ◌++◌, ℕ, length}
-use Rattle.netlist_core.specs.Numbers.{number}
-use Rattle.netlist_core.specs.Runs.{Nets, values}
-use Rattle.net_builder.specs.Building.{AllBelow}
-use Rattle.elab_expr.specs.Laid.{number_bits}
+use Rattle.elab_expr.proofs.Common.{◌≡◌, ◌+◌, ◌-◌, ◌*◌, ◌<◌, ◌^◌, ◌++◌, ℕ, length, number, Nets, values, AllBelow, number_bits}
 use Rattle.elab_expr.proofs.wiring.constant_bits.Given as goal
 
 abbrev pub invariant-loop : goal.invariant-loop

@@ -1,7 +1,4 @@
-use Rattle.std.proofs.Common.{◌∙◌, ◌-◌, List, ap, arith, length}
-use Rattle.netlist_core.specs.declared.bit.Bit.{Bit}
-use Rattle.netlist_core.specs.Numbers.{number}
-use Rattle.netlist_core.specs.Runs.{values}
+use Rattle.elab_expr.proofs.Common.{◌∙◌, ◌-◌, List, ap, arith, length, Bit, number, values}
 use Rattle.elab_expr.proofs.Extensions.{extended_is, fill_more}
 use Rattle.elab_expr.proofs.Selects.{below_filled}
 use Rattle.elab_expr.proofs.Wires.{widened_is}

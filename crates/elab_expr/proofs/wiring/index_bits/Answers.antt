@@ -1,10 +1,4 @@
-use Rattle.std.proofs.Common.{ℕ, ap, ◌∙◌}
-use Rattle.std.proofs.lemmas.Result.{IfOk-weaker}
-use Rattle.netlist_core.specs.Numbers.{number}
-use Rattle.netlist_core.specs.Runs.{values}
-use Rattle.vlog_meaning.specs.Integers.{extended}
-use Rattle.expr_plans.specs.Made.{index_width}
-use Rattle.elab_expr.specs.Wiring.{ShapeOfBits}
+use Rattle.elab_expr.proofs.Common.{ℕ, ap, ◌∙◌, IfOk-weaker, number, values, extended, index_width, ShapeOfBits}
 use Rattle.elab_expr.proofs.wiring.index_bits.Goals as goal
 
 pub returns-clause-value : goal.returns-clause-value

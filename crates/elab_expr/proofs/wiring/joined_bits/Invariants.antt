@@ -1,4 +1,4 @@
-use Rattle.std.proofs.Common.{◌≡◌, ◌++◌, take}
+use Rattle.elab_expr.proofs.Common.{◌≡◌, ◌++◌, take}
 use Rattle.elab_expr.proofs.wiring.joined_bits.Given as goal
 
 abbrev pub invariant-loop-bit : goal.invariant-loop-bit

@@ -1,6 +1,4 @@
-use Rattle.std.proofs.Common.{◌∙◌, List, ap, arith, false}
-use Rattle.netlist_core.specs.declared.bit.Bit.{Bit}
-use Rattle.elab_expr.specs.Laid.{widened}
+use Rattle.elab_expr.proofs.Common.{◌∙◌, List, ap, arith, false, Bit, widened}
 use Rattle.elab_expr.proofs.Adding.{zeros_above}
 use Rattle.elab_expr.proofs.wiring.repeated_at.Goals as goal
 

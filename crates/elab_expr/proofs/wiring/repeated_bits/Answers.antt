@@ -1,9 +1,4 @@
-use Rattle.std.proofs.Common.{◌≡◌, ◌∙◌, ◌++◌, ℕ, List, ap, arith, add-one, length}
-use Rattle.netlist_core.specs.declared.bit.Bit.{Bit}
-use Rattle.netlist_core.specs.Numbers.{number}
-use Rattle.netlist_core.specs.Runs.{values}
-use Rattle.vlog_meaning.specs.Senses.{repeated}
-use Rattle.elab_expr.specs.Laid.{times}
+use Rattle.elab_expr.proofs.Common.{◌≡◌, ◌∙◌, ◌++◌, ℕ, List, ap, arith, add-one, length, Bit, number, values, repeated, times}
 use Rattle.elab_expr.proofs.Selects.{repeated_push, length_push, below_push}
 use Rattle.elab_expr.proofs.Wires.{times_more}
 use Rattle.elab_expr.proofs.wiring.repeated_bits.Goals as goal

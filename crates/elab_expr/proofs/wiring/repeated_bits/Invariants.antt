@@ -1,9 +1,4 @@
-use Rattle.std.proofs.Common.{◌≡◌, ◌*◌, ℕ, length}
-use Rattle.netlist_core.specs.Numbers.{number}
-use Rattle.netlist_core.specs.Runs.{Nets, values}
-use Rattle.vlog_meaning.specs.Senses.{repeated}
-use Rattle.net_builder.specs.Building.{AllBelow}
-use Rattle.elab_expr.specs.Laid.{times}
+use Rattle.elab_expr.proofs.Common.{◌≡◌, ◌*◌, ℕ, length, number, Nets, values, repeated, AllBelow, times}
 use Rattle.elab_expr.proofs.wiring.repeated_bits.Given as goal
 
 abbrev pub invariant-loop : goal.invariant-loop

@@ -1,10 +1,4 @@
-use Rattle.std.proofs.Common.{◌+◌, ◌-◌, false, refl, pos, ◌-ℤ◌, subst, sym, arith, [], ◌∷◌}
-use Rattle.netlist_core.specs.declared.bit.Bit.{Bit}
-use Rattle.netlist_core.specs.declared.bit.Bit.TheVariants.{Fixed}
-use Rattle.netlist_core.specs.Numbers.{number}
-use Rattle.netlist_core.specs.Runs.{values}
-use Rattle.vlog_meaning.specs.Integers.{bound_integer}
-use Rattle.net_builder.specs.Building.{AllBelow}
+use Rattle.elab_expr.proofs.Common.{◌+◌, ◌-◌, false, refl, pos, ◌-ℤ◌, subst, sym, arith, [], ◌∷◌, Bit, Fixed, number, values, bound_integer, AllBelow}
 use Rattle.elab_expr.proofs.Selects.{selected_0, selected, saturated, down_none, down_at, up_none, below_at}
 use Rattle.elab_expr.proofs.Wires.{there, nowhere, there_or_past}
 use Rattle.elab_expr.proofs.wiring.window_bit.Goals as goal

@@ -1,10 +1,4 @@
-use Rattle.std.proofs.Common.{◌≡◌, ℕ, List, pos, add-one, ◌-ℤ◌, arith, refl, ap, ◌∙◌, subst, sym}
-use Rattle.netlist_core.specs.declared.bit.Bit.{Bit}
-use Rattle.net_builder.specs.Building.{AllBelow}
-use Rattle.netlist_core.specs.Numbers.{number}
-use Rattle.netlist_core.specs.Runs.{values}
-use Rattle.vlog_meaning.specs.Integers.{window, bound_integer}
-use Rattle.elab_expr.specs.Laid.{bits_from}
+use Rattle.elab_expr.proofs.Common.{◌≡◌, ℕ, List, pos, add-one, ◌-ℤ◌, arith, refl, ap, ◌∙◌, subst, sym, Bit, AllBelow, number, values, window, bound_integer, bits_from}
 use Rattle.elab_expr.proofs.Selects.{window_none, window_push, below_one}
 use Rattle.elab_expr.proofs.Wires.{from_more}
 use Rattle.elab_expr.proofs.wiring.window_bits.Goals as goal

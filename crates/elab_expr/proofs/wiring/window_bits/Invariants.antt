@@ -1,9 +1,4 @@
-use Rattle.std.proofs.Common.{◌≡◌, ℕ, pos, ◌-ℤ◌, length}
-use Rattle.netlist_core.specs.Numbers.{number}
-use Rattle.netlist_core.specs.Runs.{Nets, values}
-use Rattle.vlog_meaning.specs.Integers.{window, bound_integer}
-use Rattle.net_builder.specs.Building.{AllBelow}
-use Rattle.elab_expr.specs.Laid.{bits_from}
+use Rattle.elab_expr.proofs.Common.{◌≡◌, ℕ, pos, ◌-ℤ◌, length, number, Nets, values, window, bound_integer, AllBelow, bits_from}
 use Rattle.elab_expr.proofs.wiring.window_bits.Given as goal
 
 abbrev pub invariant-loop-k : goal.invariant-loop-k

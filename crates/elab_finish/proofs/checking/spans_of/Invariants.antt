@@ -1,5 +1,4 @@
-use Rattle.std.proofs.Common.{◌≡◌, map, take}
-use Rattle.elab_finish.specs.Checking.{span_of}
+use Rattle.elab_finish.proofs.Common.{◌≡◌, map, take, span_of}
 use Rattle.elab_finish.proofs.checking.spans_of.Given as goal
 
 abbrev pub invariant-loop-cell : goal.invariant-loop-cell

@@ -1,7 +1,4 @@
-use Rattle.std.proofs.Common.{Result, Ok, Err, MatchResult, subst}
-use Rattle.netlist_core.specs.declared.raw.RawNetlist.{RawNetlist}
-use Rattle.elab_finish.specs.declared.error.DesignError.{DesignError}
-use Rattle.elab_finish.specs.Refusals.{IsOver, IsWithin}
+use Rattle.elab_finish.proofs.Common.{Result, Ok, Err, MatchResult, subst, RawNetlist, DesignError, IsOver, IsWithin}
 use Rattle.elab_finish.proofs.checking.test_netlist.Goals as goal
 
 both : (r : Result (Unit {0}) DesignError) (A B : Type 0) (P : DesignError → Type 0) → A → MatchResult r (λ u. B) P → MatchResult r (λ u. A × B) P

@@ -1,9 +1,4 @@
-use Rattle.std.proofs.Common.{◌≤◌, List, sym, subst}
-use Rattle.netlist_core.specs.declared.port.Register.{Register}
-use Rattle.netlist_core.specs.Runs.{q_bits}
-use Rattle.netlist_core.specs.Drivers.{times_at}
-use Rattle.elab_finish.specs.Endings.{IsEnding}
-use Rattle.elab_finish.specs.Ordering.{AreFilled}
+use Rattle.elab_finish.proofs.Common.{◌≤◌, List, sym, subst, Register, q_bits, times_at, IsEnding, AreFilled}
 use Rattle.elab_finish.proofs.Ended.{apart_led, ended}
 use Rattle.elab_finish.proofs.ending.ending.Goals as goal
 

@@ -1,12 +1,5 @@
-use Rattle.std.proofs.Common.{◌≡◌, Result, MatchResult, List, map, sym, ◌∙◌, ap, subst}
+use Rattle.elab_finish.proofs.Common.{◌≡◌, Result, MatchResult, List, map, sym, ◌∙◌, ap, subst, Cell, RawNetlist, Finishes, DesignError, span_of, AreNamedApart, IsOver, IsWithin}
 use Rattle.std.proofs.lemmas.Result.{IfOk-weaker, IfErr-weaker}
-use Rattle.netlist_core.specs.declared.cell.Cell.{Cell}
-use Rattle.netlist_core.specs.declared.raw.RawNetlist.{RawNetlist}
-use Rattle.flat_runs.specs.Finishing.{Finishes}
-use Rattle.elab_finish.specs.declared.error.DesignError.{DesignError}
-use Rattle.elab_finish.specs.Checking.{span_of}
-use Rattle.elab_finish.specs.Names.{AreNamedApart}
-use Rattle.elab_finish.specs.Refusals.{IsOver, IsWithin}
 use Rattle.elab_finish.proofs.Finishing.{ending_finishes}
 use Rattle.elab_finish.proofs.Lefts.{over_refused}
 use Rattle.elab_finish.proofs.Sound.{formed, only_loops, as_many}

@@ -1,6 +1,4 @@
-use Rattle.std.proofs.Common.{get_or, refl, sym, ◌∙◌}
-use Rattle.std.proofs.lemmas.Bool.{false≢true}
-use Rattle.elab_finish.specs.declared.left.Left.{Left}
+use Rattle.elab_finish.proofs.Common.{get_or, refl, sym, ◌∙◌, false≢true, Left}
 use Rattle.elab_finish.proofs.Joined.{joined_on, same_there}
 use Rattle.elab_finish.proofs.Lefts.{lefts_later, first_left, free_of_loops}
 use Rattle.elab_finish.proofs.left.first_looped.Goals as goal

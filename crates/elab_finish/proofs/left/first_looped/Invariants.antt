@@ -1,7 +1,4 @@
-use Rattle.std.proofs.Common.{◌≡◌, ◌<◌, ℕ, slice_get, Some}
-use Rattle.elab_finish.specs.declared.left.Left.{Left}
-use Rattle.elab_finish.specs.Loops.{next_of, IsLeftLooped}
-use Rattle.elab_finish.specs.Searching.{IsSettled}
+use Rattle.elab_finish.proofs.Common.{◌≡◌, ◌<◌, ℕ, slice_get, Some, Left, next_of, IsLeftLooped, IsSettled}
 use Rattle.elab_finish.proofs.left.first_looped.Given as goal
 
 abbrev pub invariant-loop-left : goal.invariant-loop-left

@@ -1,7 +1,4 @@
-use Rattle.std.proofs.Common.{◌≡◌, ◌<◌, ◌≤◌, ◌-◌, ℕ, slice_get, Some}
-use Rattle.netlist_core.specs.declared.bit.Bit.TheVariants.{Net}
-use Rattle.elab_finish.specs.Loops.{next_of, IsLooped}
-use Rattle.elab_finish.specs.Searching.{IsSettled}
+use Rattle.elab_finish.proofs.Common.{◌≡◌, ◌<◌, ◌≤◌, ◌-◌, ℕ, slice_get, Some, Net, next_of, IsLooped, IsSettled}
 use Rattle.elab_finish.proofs.left.has_looped.Given as goal
 
 abbrev pub invariant-loop-k : goal.invariant-loop-k

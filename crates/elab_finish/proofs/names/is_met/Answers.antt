@@ -1,4 +1,4 @@
-use Rattle.std.proofs.Common.{sym, ◌∙◌}
+use Rattle.elab_finish.proofs.Common.{sym, ◌∙◌}
 use Rattle.elab_finish.proofs.Naming.{met_more}
 use Rattle.elab_finish.proofs.names.is_met.Goals as goal
 

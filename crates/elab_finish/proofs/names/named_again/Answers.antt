@@ -1,5 +1,4 @@
-use Rattle.std.proofs.Common.{map, take}
-use Rattle.elab_finish.specs.Names.{register_name}
+use Rattle.elab_finish.proofs.Common.{map, take, register_name}
 use Rattle.elab_finish.proofs.Naming.{again_there, all_apart, met_on, none_again}
 use Rattle.elab_finish.proofs.names.named_again.Goals as goal
 

@@ -1,5 +1,4 @@
-use Rattle.std.proofs.Common.{map, take}
-use Rattle.elab_finish.specs.Names.{HasMet, register_name}
+use Rattle.elab_finish.proofs.Common.{map, take, HasMet, register_name}
 use Rattle.elab_finish.proofs.Naming.{NoneAgain}
 use Rattle.elab_finish.proofs.names.named_again.Given as goal
 

@@ -1,6 +1,4 @@
-use Rattle.std.proofs.Common.{arith}
-use Rattle.std.proofs.lemmas.Option.{slice_get_within}
-use Rattle.netlist_core.specs.declared.bit.Bit.TheVariants.{Net}
+use Rattle.elab_finish.proofs.Common.{arith, slice_get_within, Net}
 use Rattle.elab_finish.proofs.Joined.{same_there, above_step}
 use Rattle.elab_finish.proofs.nets.above.Goals as goal
 

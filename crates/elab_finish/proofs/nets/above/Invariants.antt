@@ -1,5 +1,4 @@
-use Rattle.std.proofs.Common.{◌≡◌, ◌<◌, ◌≤◌, ◌^◌, ℕ, slice_get, Some}
-use Rattle.netlist_core.specs.declared.bit.Bit.TheVariants.{Net}
+use Rattle.elab_finish.proofs.Common.{◌≡◌, ◌<◌, ◌≤◌, ◌^◌, ℕ, slice_get, Some, Net}
 use Rattle.elab_finish.proofs.nets.above.Given as goal
 
 abbrev pub invariant-loop-bit : goal.invariant-loop-bit

@@ -1,6 +1,4 @@
-use Rattle.std.proofs.Common.{◌≡◌, ◌<◌, ℕ, List, slice_get, Some, subst, arith}
-use Rattle.netlist_core.specs.declared.bit.Bit.{Bit}
-use Rattle.netlist_core.specs.declared.bit.Bit.TheVariants.{Net}
+use Rattle.elab_finish.proofs.Common.{◌≡◌, ◌<◌, ℕ, List, slice_get, Some, subst, arith, Bit, Net}
 use Rattle.elab_finish.proofs.Joined.{limit_step, bit_known}
 use Rattle.elab_finish.proofs.nets.net_limit.Goals as goal
 

@@ -1,5 +1,4 @@
-use Rattle.std.proofs.Common.{◌<◌, ◌≤◌, ◌^◌, ℕ}
-use Rattle.flat_runs.specs.Adding.{IsBit}
+use Rattle.elab_finish.proofs.Common.{◌<◌, ◌≤◌, ◌^◌, ℕ, IsBit}
 use Rattle.elab_finish.proofs.nets.net_limit.Given as goal
 
 abbrev pub invariant-loop-number : goal.invariant-loop-number

@@ -1,4 +1,4 @@
-use Rattle.std.proofs.Common.{inl, sym, ◌∙◌}
+use Rattle.elab_finish.proofs.Common.{inl, sym, ◌∙◌}
 use Rattle.std.proofs.lemmas.Result.{on_ok_weaker}
 use Rattle.elab_finish.proofs.ordering.add_slot.Goals as goal
 

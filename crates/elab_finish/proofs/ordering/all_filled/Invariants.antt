@@ -1,5 +1,4 @@
-use Rattle.std.proofs.Common.{take}
-use Rattle.elab_finish.specs.Ordering.{AreFilled}
+use Rattle.elab_finish.proofs.Common.{take, AreFilled}
 use Rattle.elab_finish.proofs.ordering.all_filled.Given as goal
 
 abbrev pub invariant-loop-slot : goal.invariant-loop-slot

@@ -1,6 +1,4 @@
-use Rattle.std.proofs.Common.{List, refl, ◌∙◌, subst}
-use Rattle.netlist_core.specs.declared.bit.Bit.{Bit}
-use Rattle.elab_finish.specs.Ordering.{IsOnly}
+use Rattle.elab_finish.proofs.Common.{List, refl, ◌∙◌, subst, Bit, IsOnly}
 use Rattle.elab_finish.proofs.Orders.{filled_is}
 use Rattle.elab_finish.proofs.ordering.filled.Goals as goal
 

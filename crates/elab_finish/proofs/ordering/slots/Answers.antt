@@ -1,4 +1,4 @@
-use Rattle.std.proofs.Common.{get_or}
+use Rattle.elab_finish.proofs.Common.{get_or}
 use Rattle.elab_finish.proofs.Joined.{same_there}
 use Rattle.elab_finish.proofs.Orders.{known_at, slots_step}
 use Rattle.elab_finish.proofs.ordering.slots.Goals as goal

@@ -1,6 +1,4 @@
-use Rattle.std.proofs.Common.{take}
-use Rattle.elab_finish.specs.Endings.{registers_in}
-use Rattle.elab_finish.specs.Ordering.{AreSlots}
+use Rattle.elab_finish.proofs.Common.{take, registers_in, AreSlots}
 use Rattle.elab_finish.proofs.ordering.slots.Given as goal
 
 abbrev pub invariant-loop-number : goal.invariant-loop-number

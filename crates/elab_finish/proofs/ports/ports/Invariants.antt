@@ -1,5 +1,4 @@
-use Rattle.std.proofs.Common.{◌≡◌, map, take}
-use Rattle.elab_finish.specs.Endings.{port_of}
+use Rattle.elab_finish.proofs.Common.{◌≡◌, map, take, port_of}
 use Rattle.elab_finish.proofs.ports.ports.Given as goal
 
 abbrev pub invariant-loop-number : goal.invariant-loop-number

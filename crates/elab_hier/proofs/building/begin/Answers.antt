@@ -1,14 +1,4 @@
-use Rattle.std.proofs.Common.{◌≤◌, ◌∙◌, List, ap, subst}
-use Rattle.vlog_meaning.specs.Scopes.{Store}
-use Rattle.flat_scopes.specs.declared.signal.Signal.{Signal}
-use Rattle.flat_instances.specs.declared.item.FlatItem.{FlatItem}
-use Rattle.flat_items.specs.Views.{flat_of}
-use Rattle.net_builder.specs.Building.{empty}
-use Rattle.process_cells.specs.Items.{widths_in}
-use Rattle.process_cells.specs.Starts.{StartsWith}
-use Rattle.elab_items.specs.Signals.{bits_of, declared, max_bits}
-use Rattle.elab_items.specs.Starting.{AllStart}
-use Rattle.elab_items.specs.Starts.{starts_from}
+use Rattle.elab_hier.proofs.Common.{◌≤◌, ◌∙◌, List, ap, subst, Store, Signal, FlatItem, flat_of, empty, widths_in, StartsWith, bits_of, declared, max_bits, AllStart, starts_from}
 use Rattle.elab_hier.proofs.Begun.{begun, declared_ready}
 use Rattle.elab_hier.proofs.building.begin.Goals as goal
 

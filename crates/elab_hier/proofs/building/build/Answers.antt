@@ -1,12 +1,8 @@
-use Rattle.std.proofs.Common.{ℕ, List, Option, None, Some, subst}
-use Rattle.flat_instances.specs.declared.item.FlatItem.{FlatItem}
-use Rattle.flat_items.specs.Views.{flat_of}
-use Rattle.elab_items.specs.Turns.{IsPast, max_turns}
-use Rattle.elab_hier.proofs.Begun.{begun_ready}
+use Rattle.elab_hier.proofs.Common.{ℕ, List, Option, None, Some, subst, FlatItem, flat_of, IsPast, max_turns, first_stands}
 use Rattle.elab_hier.proofs.building.build.Goals as goal
 
 pub first_past-requires-clause-stands : goal.first_past-requires-clause-stands
-first_past-requires-clause-stands c = begun_ready (flat_of c.args.flat.now) c.in_ok-builder.builder c.requires.sound c.in_ok-builder.ensures.begun.begins.declared
+first_past-requires-clause-stands c = first_stands (flat_of c.args.flat.now) c.in_ok-builder.builder c.requires.sound c.in_ok-builder.ensures.begun.begins.declared
 
 pub first_past-requires-clause-copies : goal.first_past-requires-clause-copies
 first_past-requires-clause-copies c = (c.in_ok-desk.ensures (flat_of c.args.flat.now).places).holds.scopes

@@ -1,17 +1,9 @@
-use Rattle.std.proofs.Common.{◌≡◌, ◌⊎◌, List, subst}
-use Rattle.flat_scopes.specs.declared.signal.Signal.{Signal}
-use Rattle.flat_instances.specs.declared.item.FlatItem.{FlatItem}
-use Rattle.flat_items.specs.Views.{flat_of}
-use Rattle.flat_clocks.specs.Views.{clocks_in}
-use Rattle.elab_items.specs.declared.answer.ElabError.TheVariants.{Memory}
-use Rattle.elab_items.specs.Timed.{BuildsAll, FailsSome}
-use Rattle.elab_hier.specs.Refusals.{build_answer}
-use Rattle.elab_hier.proofs.Begun.{begun_ready}
+use Rattle.elab_hier.proofs.Common.{◌≡◌, ◌⊎◌, List, subst, Signal, FlatItem, flat_of, clocks_in, Memory, BuildsAll, FailsSome, build_answer, first_stands}
 use Rattle.elab_hier.proofs.Counted.{all_built, all_refused}
 use Rattle.elab_hier.proofs.building.build_all.Goals as goal
 
 pub build_items-requires-clause-stands : goal.build_items-requires-clause-stands
-build_items-requires-clause-stands c = begun_ready (flat_of c.args.flat.now) c.args.builder c.requires.sound c.requires.begun.begins.declared
+build_items-requires-clause-stands c = first_stands (flat_of c.args.flat.now) c.args.builder c.requires.sound c.requires.begun.begins.declared
 
 pub returns-in-Ok-clause-built : goal.returns-in-Ok-clause-built
 returns-in-Ok-clause-built c =

@@ -1,12 +1,5 @@
-use Rattle.std.proofs.Common.{◌≡◌, ◌≤◌, ◌⊎◌, List, take, length, ap, subst, arith}
+use Rattle.elab_hier.proofs.Common.{◌≡◌, ◌≤◌, ◌⊎◌, List, take, length, ap, subst, arith, Signal, FlatItem, flat_of, clocks_in, Memory, build_answer, first_stands}
 use Rattle.std.proofs.lemmas.List.{length-take-le}
-use Rattle.flat_scopes.specs.declared.signal.Signal.{Signal}
-use Rattle.flat_instances.specs.declared.item.FlatItem.{FlatItem}
-use Rattle.flat_items.specs.Views.{flat_of}
-use Rattle.flat_clocks.specs.Views.{clocks_in}
-use Rattle.elab_items.specs.declared.answer.ElabError.TheVariants.{Memory}
-use Rattle.elab_hier.specs.Refusals.{build_answer}
-use Rattle.elab_hier.proofs.Begun.{begun_ready}
 use Rattle.elab_hier.proofs.Counted.{some_refused, turns_refused}
 use Rattle.elab_hier.proofs.building.refuse.Goals as goal
 
@@ -19,7 +12,7 @@ slice_bounds-before-end c =
     omega (arith, there, long)
 
 pub build_items-requires-clause-stands : goal.build_items-requires-clause-stands
-build_items-requires-clause-stands c = begun_ready (flat_of c.args.flat.now) c.args.builder c.requires.sound c.requires.begun.begins.declared
+build_items-requires-clause-stands c = first_stands (flat_of c.args.flat.now) c.args.builder c.requires.sound c.requires.begun.begins.declared
 
 pub returns-in-Ok : goal.returns-in-Ok
 returns-in-Ok c =

@@ -1,16 +1,8 @@
-use Rattle.std.proofs.Common.{◌∙◌, List, Option, ℕ, ap, length, subst, sym}
-use Rattle.std.specs.Prelude.{option_map}
-use Rattle.std.proofs.lemmas.Result.{IfErr-weaker}
-use Rattle.flat_scopes.specs.Wires.{ports_of}
-use Rattle.flat_items.specs.Views.{flat_of}
-use Rattle.flat_clocks.specs.Clocks.{Clocks}
+use Rattle.elab_hier.proofs.Common.{◌∙◌, List, Option, ℕ, ap, length, subst, sym, option_map, IfErr-weaker, ports_of, flat_of, Clocks, without, IsNetlistOf, IsRefusalOf, AreFlags, all_inputs}
 use Rattle.flat_runs.proofs.Law.{built_runs}
 use Rattle.elab_items.specs.Answers.{name_of}
-use Rattle.elab_items.specs.Designs.{without}
 use Rattle.elab_items.proofs.Sounding.{designs_begin}
 use Rattle.elab_items.proofs.Standing.{items_added}
-use Rattle.elab_hier.specs.Parts.{IsNetlistOf, IsRefusalOf}
-use Rattle.elab_hier.specs.Tops.{AreFlags, all_inputs}
 use Rattle.elab_hier.proofs.Netlists.{can_end, ended, not_ended}
 use Rattle.elab_hier.proofs.Sources.{not_built}
 use Rattle.elab_hier.proofs.Told.{all_told, handed_on}

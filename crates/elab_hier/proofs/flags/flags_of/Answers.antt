@@ -1,5 +1,4 @@
-use Rattle.std.proofs.Common.{get_or, refl, arith}
-use Rattle.elab_finish.proofs.Joined.{same_there}
+use Rattle.elab_hier.proofs.Common.{get_or, refl, arith, same_there}
 use Rattle.elab_hier.proofs.Once.{flags_on}
 use Rattle.elab_hier.proofs.flags.flags_of.Goals as goal
 

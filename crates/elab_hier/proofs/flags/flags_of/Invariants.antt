@@ -1,5 +1,4 @@
-use Rattle.std.proofs.Common.{take}
-use Rattle.elab_hier.specs.Tops.{AreFlags}
+use Rattle.elab_hier.proofs.Common.{take, AreFlags}
 use Rattle.elab_hier.proofs.flags.flags_of.Given as goal
 
 abbrev pub invariant-loop-number : goal.invariant-loop-number

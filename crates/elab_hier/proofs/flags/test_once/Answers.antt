@@ -1,5 +1,4 @@
-use Rattle.std.proofs.Common.{◌≡◌, false, get_or, refl, arith, rules}
-use Rattle.elab_finish.proofs.Joined.{same_there}
+use Rattle.elab_hier.proofs.Common.{◌≡◌, false, get_or, refl, arith, rules, same_there}
 use Rattle.elab_hier.proofs.Once.{flags_on, once_on}
 use Rattle.elab_hier.proofs.flags.test_once.Goals as goal
 

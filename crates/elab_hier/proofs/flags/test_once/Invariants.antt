@@ -1,6 +1,4 @@
-use Rattle.std.proofs.Common.{take}
-use Rattle.flat_runs.specs.Meanings.{NoneTwice}
-use Rattle.elab_hier.specs.Tops.{AreFlags}
+use Rattle.elab_hier.proofs.Common.{take, NoneTwice, AreFlags}
 use Rattle.elab_hier.proofs.flags.test_once.Given as goal
 
 abbrev pub invariant-loop-number : goal.invariant-loop-number

@@ -1,5 +1,4 @@
-use Rattle.std.proofs.Common.{◌≡◌, ◌++◌, drop}
-use Rattle.elab_writers.specs.Numbers.{declared_numbers}
+use Rattle.elab_hier.proofs.Common.{◌≡◌, ◌++◌, drop, declared_numbers}
 use Rattle.elab_hier.proofs.numbers.declared_numbers.Given as goal
 
 abbrev pub invariant-loop-item : goal.invariant-loop-item

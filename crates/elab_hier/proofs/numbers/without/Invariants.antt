@@ -1,5 +1,4 @@
-use Rattle.std.proofs.Common.{◌≡◌, ◌++◌, drop}
-use Rattle.elab_items.specs.Designs.{without}
+use Rattle.elab_hier.proofs.Common.{◌≡◌, ◌++◌, drop, without}
 use Rattle.elab_hier.proofs.numbers.without.Given as goal
 
 abbrev pub invariant-loop-number : goal.invariant-loop-number

@@ -1,8 +1,4 @@
-use Rattle.std.proofs.Common.{◌≡◌, ◌++◌, drop}
-use Rattle.std.specs.Prelude.{slice_get}
-use Rattle.flat_items.specs.Tops.{own_in}
-use Rattle.flat_items.specs.Views.{flat_of}
-use Rattle.elab_items.specs.Designs.{port_numbers}
+use Rattle.elab_hier.proofs.Common.{◌≡◌, ◌++◌, drop, slice_get, own_in, flat_of, port_numbers}
 use Rattle.elab_hier.proofs.ports.port_numbers.Given as goal
 
 abbrev pub invariant-loop-port : goal.invariant-loop-port

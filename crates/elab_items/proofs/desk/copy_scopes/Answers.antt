@@ -1,4 +1,4 @@
-use Rattle.std.proofs.Common.{rules}
+use Rattle.elab_items.proofs.Common.{rules}
 use Rattle.elab_items.proofs.Running.{copies_more}
 use Rattle.elab_items.proofs.desk.copy_scopes.Goals as goal
 

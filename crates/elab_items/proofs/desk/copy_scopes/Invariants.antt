@@ -1,6 +1,4 @@
-use Rattle.std.proofs.Common.{◌≡◌, length}
-use Rattle.flat_items.specs.Views.{flat_of}
-use Rattle.elab_items.specs.Desks.{AreCopies}
+use Rattle.elab_items.proofs.Common.{◌≡◌, length, flat_of, AreCopies}
 use Rattle.elab_items.proofs.desk.copy_scopes.Given as goal
 
 abbrev pub invariant-loop-next : goal.invariant-loop-next

@@ -1,7 +1,5 @@
-use Rattle.std.proofs.Common.{◌≡◌, ◌≤◌, drop}
-use Rattle.elab_items.specs.Designs.{widths_of}
+use Rattle.elab_items.proofs.Common.{◌≡◌, ◌≤◌, drop, widths_of, max_bits}
 use Rattle.elab_items.specs.Full.{listed_before}
-use Rattle.elab_items.specs.Signals.{max_bits}
 use Rattle.elab_items.proofs.full.listed_before.Given as goal
 
 abbrev pub invariant-loop-item : goal.invariant-loop-item

@@ -1,5 +1,5 @@
 use Rattle.std.proofs.lemmas.Result.{on_ok_weaker}
-use Rattle.flat_items.specs.Views.{flat_of}
+use Rattle.elab_items.proofs.Common.{flat_of}
 use Rattle.elab_items.proofs.Building.{assigns_built}
 use Rattle.elab_items.proofs.Standing.{builds_hold}
 use Rattle.elab_items.proofs.item.add_item.Goals as goal

@@ -1,8 +1,4 @@
-use Rattle.std.proofs.Common.{List, sym, subst, inr, refl}
-use Rattle.flat_items.specs.Views.{flat_of}
-use Rattle.flat_clocks.specs.Views.{clocks_in}
-use Rattle.flat_instances.specs.declared.item.FlatItem.{FlatItem}
-use Rattle.elab_items.specs.Timed.{BuildsAll, FailsSome}
+use Rattle.elab_items.proofs.Common.{List, sym, subst, inr, refl, flat_of, clocks_in, FlatItem, BuildsAll, FailsSome}
 use Rattle.elab_items.proofs.Standing.{builds_stand, rest_is}
 use Rattle.elab_items.proofs.items.build_items.Goals as goal
 

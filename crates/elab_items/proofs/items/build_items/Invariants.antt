@@ -1,11 +1,4 @@
-use Rattle.std.proofs.Common.{length}
-use Rattle.net_builder.specs.Building.{Building}
-use Rattle.flat_items.specs.Views.{flat_of}
-use Rattle.flat_clocks.specs.Views.{clocks_in}
-use Rattle.elab_items.specs.declared.error.BuildError.{BuildError}
-use Rattle.elab_items.specs.Desks.{Serves}
-use Rattle.elab_items.specs.Items.{Stands}
-use Rattle.elab_items.specs.Timed.{BuildsAll, FailsSome}
+use Rattle.elab_items.proofs.Common.{length, Building, flat_of, clocks_in, BuildError, Serves, Stands, BuildsAll, FailsSome}
 use Rattle.elab_items.proofs.items.build_items.Given as goal
 
 abbrev pub invariant-loop-rest : goal.invariant-loop-rest

@@ -1,5 +1,4 @@
-use Rattle.std.proofs.Common.{◌≡◌, map, take}
-use Rattle.elab_proc.specs.Refusals.{same_form}
+use Rattle.elab_items.proofs.Common.{◌≡◌, map, take, same_form}
 use Rattle.elab_items.proofs.left.+left.Given as goal
 
 abbrev pub invariant-lefts_of-loop-part : goal.invariant-lefts_of-loop-part

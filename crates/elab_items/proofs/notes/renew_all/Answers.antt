@@ -1,4 +1,4 @@
-use Rattle.std.proofs.Common.{◌∙◌, get_or, refl, arith}
+use Rattle.elab_items.proofs.Common.{◌∙◌, get_or, refl, arith}
 use Rattle.elab_items.proofs.Renewing.{more_renewed}
 use Rattle.elab_items.proofs.notes.renew_all.Goals as goal
 

@@ -1,5 +1,4 @@
-use Rattle.std.proofs.Common.{◌≡◌, length, take}
-use Rattle.elab_items.specs.Desks.{AreRenewed}
+use Rattle.elab_items.proofs.Common.{◌≡◌, length, take, AreRenewed}
 use Rattle.elab_items.proofs.notes.renew_all.Given as goal
 
 abbrev pub invariant-loop-number : goal.invariant-loop-number

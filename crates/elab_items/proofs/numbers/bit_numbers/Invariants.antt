@@ -1,5 +1,4 @@
-use Rattle.std.proofs.Common.{◌≡◌, take, map}
-use Rattle.flat_assigns.specs.declared.written.WrittenBit.{WrittenBit}
+use Rattle.elab_items.proofs.Common.{◌≡◌, take, map, WrittenBit}
 use Rattle.elab_items.proofs.numbers.bit_numbers.Given as goal
 
 abbrev pub invariant-loop-bit : goal.invariant-loop-bit

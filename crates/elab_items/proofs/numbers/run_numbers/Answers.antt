@@ -1,6 +1,4 @@
-use Rattle.std.proofs.Common.{arith}
-use Rattle.vlog_meaning.specs.Scopes.{names_of}
-use Rattle.flat_items.specs.Views.{flat_of}
+use Rattle.elab_items.proofs.Common.{arith, names_of, flat_of}
 use Rattle.elab_items.proofs.Running.{scope_is, sized_as}
 use Rattle.elab_items.proofs.numbers.run_numbers.Goals as goal
 

@@ -1,5 +1,4 @@
-use Rattle.std.proofs.Common.{◌≡◌, take, map}
-use Rattle.process_latches.specs.declared.marks.Write.{Write}
+use Rattle.elab_items.proofs.Common.{◌≡◌, take, map, Write}
 use Rattle.elab_items.proofs.numbers.write_numbers.Given as goal
 
 abbrev pub invariant-loop-write : goal.invariant-loop-write

@@ -1,4 +1,4 @@
-use Rattle.vlog_meaning.specs.Scopes.{names_of}
+use Rattle.elab_items.proofs.Common.{names_of}
 use Rattle.elab_items.proofs.Running.{process_fails}
 use Rattle.elab_items.proofs.run.build_in.Goals as goal
 

@@ -1,6 +1,4 @@
-use Rattle.std.proofs.Common.{sym, arith}
-use Rattle.vlog_meaning.specs.Scopes.{names_of}
-use Rattle.flat_items.specs.Views.{flat_of}
+use Rattle.elab_items.proofs.Common.{sym, arith, names_of, flat_of}
 use Rattle.elab_items.proofs.Building.{signals_at}
 use Rattle.elab_items.proofs.Running.{scope_is, sized_as}
 use Rattle.elab_items.proofs.run.build_run.Goals as goal

@@ -1,4 +1,4 @@
-use Rattle.vlog_meaning.specs.Scopes.{names_of}
+use Rattle.elab_items.proofs.Common.{names_of}
 use Rattle.elab_items.proofs.Building.{sides_fail}
 use Rattle.elab_items.proofs.sides.build_between.Goals as goal
 

@@ -1,5 +1,4 @@
-use Rattle.vlog_meaning.specs.Scopes.{names_of}
-use Rattle.flat_items.specs.Views.{flat_of}
+use Rattle.elab_items.proofs.Common.{names_of, flat_of}
 use Rattle.elab_items.proofs.Building.{signals_at}
 use Rattle.elab_items.proofs.sides.build_sides.Goals as goal
 

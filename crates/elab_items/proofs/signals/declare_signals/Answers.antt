@@ -1,4 +1,4 @@
-use Rattle.std.proofs.Common.{refl, arith}
+use Rattle.elab_items.proofs.Common.{refl, arith}
 use Rattle.elab_items.proofs.Declaring.{begun, left_last, left_more}
 use Rattle.elab_items.proofs.Standing.{rest_is}
 use Rattle.elab_items.proofs.signals.declare_signals.Goals as goal

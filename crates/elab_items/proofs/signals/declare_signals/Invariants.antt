@@ -1,7 +1,4 @@
-use Rattle.std.proofs.Common.{◌≡◌, ◌+◌, ◌≤◌, length}
-use Rattle.net_builder.specs.Building.{empty, own_bits}
-use Rattle.flat_laws.specs.Sound.{AreSized}
-use Rattle.elab_items.specs.Signals.{bits_of, declared, max_bits}
+use Rattle.elab_items.proofs.Common.{◌≡◌, ◌+◌, ◌≤◌, length, empty, own_bits, AreSized, bits_of, declared, max_bits}
 use Rattle.elab_items.proofs.signals.declare_signals.Given as goal
 
 abbrev pub invariant-loop-rest : goal.invariant-loop-rest

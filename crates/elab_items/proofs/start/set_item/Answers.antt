@@ -1,4 +1,4 @@
-use Rattle.std.proofs.Common.{sym}
+use Rattle.elab_items.proofs.Common.{sym}
 use Rattle.elab_items.proofs.start.set_item.Goals as goal
 
 pub returns-in-Starts-clause-starts : goal.returns-in-Starts-clause-starts

@@ -1,9 +1,7 @@
-use Rattle.vlog_meaning.specs.Scopes.{names_of}
-use Rattle.flat_items.specs.Views.{flat_of}
+use Rattle.elab_items.proofs.Common.{names_of, flat_of, sym}
 use Rattle.elab_items.proofs.Starting.{run_started}
 use Rattle.elab_items.proofs.Running.{sized_as}
 use Rattle.elab_items.proofs.Building.{signals_at}
-use Rattle.std.proofs.Common.{sym}
 use Rattle.elab_items.proofs.start.set_run.Goals as goal
 
 pub start_process-requires-clause-sized : goal.start_process-requires-clause-sized

@@ -1,14 +1,8 @@
-use Rattle.std.proofs.Common.{List, sym, subst, refl, arith}
-use Rattle.vlog_meaning.specs.Scopes.{Store}
-use Rattle.process_cells.specs.Items.{Widths, widths_in}
-use Rattle.process_cells.specs.Starts.{StartsWith}
-use Rattle.flat_items.specs.Views.{flat_of}
-use Rattle.flat_instances.specs.declared.item.FlatItem.{FlatItem}
-use Rattle.elab_items.specs.Starting.{AllStart, CanStart}
-use Rattle.elab_items.specs.Starts.{started, starts_from}
+use Rattle.elab_items.proofs.Common.{List, sym, subst, refl, arith, Store, Widths, widths_in, StartsWith, flat_of, FlatItem, AllStart, CanStart, started, starts_from}
 use Rattle.elab_items.proofs.Standing.{rest_is}
-use Rattle.elab_items.proofs.Starting.{last_started, rest_started, same_starts, same_widths, starts_after, starts_stand}
+use Rattle.elab_items.proofs.Starting.{last_started, rest_started, same_starts, same_widths, starts_stand}
 use Rattle.elab_items.proofs.start.set_starts.Goals as goal
+use Rattle.process_cells.proofs.Starting.{same_others}
 
 pub set_item-requires : goal.set_item-requires
 set_item-requires c = starts_stand (flat_of c.args.flat.now).places c.args.builder.now c.loop-rest.builder c.loop-rest.invariant.others c.requires
@@ -27,7 +21,7 @@ loop-rest-preserved c =
     let item = c.item-item.result in
     let one = subst (λ (w : Widths). (store : Store) → CanStart w places item → StartsWith old store → StartsWith mid (started w places item store)) (same_widths first old c.loop-rest.invariant.others) c.in_ok-set_item.ensures.starts in
     record {
-      others = starts_after first old mid c.loop-rest.invariant.others c.in_ok-set_item.ensures.others;
+      others = same_others first old mid c.loop-rest.invariant.others c.in_ok-set_item.ensures.others;
       starts = λ new h. c.loop-rest.invariant.starts new (subst (λ (l : List FlatItem). (store : Store) → AllStart width places l → StartsWith old store → StartsWith new (starts_from width places l store)) (sym split) (rest_started places width item _ old mid new one h));
     }
 

@@ -1,11 +1,4 @@
-use Rattle.std.proofs.Common.{length}
-use Rattle.vlog_meaning.specs.Scopes.{Store}
-use Rattle.net_builder.specs.Building.{Building}
-use Rattle.process_cells.specs.Items.{widths_in}
-use Rattle.process_cells.specs.Starts.{SameButStarts, StartsWith}
-use Rattle.flat_items.specs.Views.{flat_of}
-use Rattle.elab_items.specs.Starting.{AllStart}
-use Rattle.elab_items.specs.Starts.{starts_from}
+use Rattle.elab_items.proofs.Common.{length, Store, Building, widths_in, SameButStarts, StartsWith, flat_of, AllStart, starts_from}
 use Rattle.elab_items.proofs.start.set_starts.Given as goal
 
 abbrev pub invariant-loop-rest : goal.invariant-loop-rest

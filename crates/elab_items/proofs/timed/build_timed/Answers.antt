@@ -1,5 +1,4 @@
-use Rattle.flat_items.specs.Views.{flat_of}
-use Rattle.flat_clocks.specs.Views.{clocks_in}
+use Rattle.elab_items.proofs.Common.{flat_of, clocks_in}
 use Rattle.elab_items.proofs.Timing.{timed_built}
 use Rattle.elab_items.proofs.timed.build_timed.Goals as goal
 

@@ -1,4 +1,4 @@
-use Rattle.std.proofs.Common.{[], ◌∷◌, Some, refl}
+use Rattle.elab_items.proofs.Common.{[], ◌∷◌, Some, refl}
 use Rattle.elab_proc.proofs.Firsts.{first_alone}
 use Rattle.elab_items.proofs.timed.first_found.Goals as goal
 

@@ -1,7 +1,4 @@
-use Rattle.std.proofs.Common.{ℕ, Option, subst}
-use Rattle.loop_turns.specs.Counts.{IsLeft}
-use Rattle.flat_items.specs.Views.{flat_of}
-use Rattle.elab_items.specs.Turns.{item_turns, max_turns}
+use Rattle.elab_items.proofs.Common.{ℕ, Option, subst, IsLeft, flat_of, item_turns, max_turns}
 use Rattle.elab_items.proofs.Turning.{after_one, past_here}
 use Rattle.elab_items.proofs.turns.first_past.Goals as goal
 

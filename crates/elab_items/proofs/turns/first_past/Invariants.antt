@@ -1,7 +1,4 @@
-use Rattle.std.proofs.Common.{◌≡◌}
-use Rattle.flat_items.specs.Views.{flat_of}
-use Rattle.elab_items.specs.Desks.{AreCopies}
-use Rattle.elab_items.specs.Turns.{max_turns}
+use Rattle.elab_items.proofs.Common.{◌≡◌, flat_of, AreCopies, max_turns}
 use Rattle.elab_items.proofs.Turning.{LeftAfter}
 use Rattle.elab_items.proofs.turns.first_past.Given as goal
 

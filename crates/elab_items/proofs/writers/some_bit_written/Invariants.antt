@@ -1,5 +1,4 @@
-use Rattle.std.proofs.Common.{◌↔◌, drop}
-use Rattle.elab_items.specs.Writers.{SomeBitWritten}
+use Rattle.elab_items.proofs.Common.{◌↔◌, drop, SomeBitWritten}
 use Rattle.elab_items.proofs.writers.some_bit_written.Given as goal
 
 abbrev pub invariant-loop-bit : goal.invariant-loop-bit

@@ -1,4 +1,4 @@
-use Rattle.std.proofs.Common.{rules}
+use Rattle.elab_items.proofs.Common.{rules}
 use Rattle.elab_items.proofs.Writing.{tell_more}
 use Rattle.elab_items.proofs.writers.writers.Goals as goal
 

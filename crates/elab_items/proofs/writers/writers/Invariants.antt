@@ -1,5 +1,4 @@
-use Rattle.std.proofs.Common.{◌≡◌, ◌↔◌, ℕ, ◌<◌, false, IsTrue, get_or, length}
-use Rattle.elab_items.specs.Writers.{HasWriter}
+use Rattle.elab_items.proofs.Common.{◌≡◌, ◌↔◌, ℕ, ◌<◌, false, IsTrue, get_or, length, HasWriter}
 use Rattle.elab_items.proofs.writers.writers.Given as goal
 
 abbrev pub invariant-loop-number : goal.invariant-loop-number

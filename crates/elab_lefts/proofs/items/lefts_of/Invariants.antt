@@ -1,8 +1,4 @@
-use Rattle.std.proofs.Common.{◌≡◌, take}
-use Rattle.std.specs.List.{flat_map}
-use Rattle.flat_items.specs.Views.{flat_of}
-use Rattle.elab_items.specs.Desks.{AreCopies}
-use Rattle.elab_lefts.specs.Lefts.{item_lefts}
+use Rattle.elab_lefts.proofs.Common.{◌≡◌, take, flat_map, flat_of, AreCopies, item_lefts}
 use Rattle.elab_lefts.proofs.items.lefts_of.Given as goal
 
 abbrev pub invariant-loop-item : goal.invariant-loop-item

@@ -1,5 +1,4 @@
-use Rattle.std.proofs.Common.{arith}
-use Rattle.flat_items.specs.Views.{flat_of}
+use Rattle.elab_lefts.proofs.Common.{arith, flat_of}
 use Rattle.elab_lefts.proofs.Scopes.{copy_sized}
 use Rattle.elab_lefts.proofs.items.list_run.Goals as goal
 

@@ -1,6 +1,5 @@
-use Rattle.std.proofs.Common.{◌≡◌, ◌++◌, map, take}
+use Rattle.elab_lefts.proofs.Common.{◌≡◌, ◌++◌, map, take, bit_left}
 use Rattle.flat_assigns.specs.Bits.{targets_of}
-use Rattle.elab_lefts.specs.Lefts.{bit_left}
 use Rattle.elab_lefts.proofs.lists.list_bits.Given as goal
 
 abbrev pub invariant-loop-bit : goal.invariant-loop-bit

@@ -1,5 +1,4 @@
-use Rattle.std.proofs.Common.{◌≡◌, ◌++◌, map, take}
-use Rattle.elab_lefts.specs.Lefts.{write_left}
+use Rattle.elab_lefts.proofs.Common.{◌≡◌, ◌++◌, map, take, write_left}
 use Rattle.elab_lefts.proofs.lists.list_writes.Given as goal
 
 abbrev pub invariant-loop-write : goal.invariant-loop-write

@@ -1,4 +1,4 @@
-use Rattle.std.proofs.Common.{add-one, arith}
+use Rattle.elab_proc.proofs.Common.{add-one, arith}
 use Rattle.elab_proc.proofs.CaseLemmas.{always_hit, always_miss}
 use Rattle.elab_proc.proofs.cases.always.Goals.{then-is_free, else-is_free}
 use Rattle.elab_proc.proofs.cases.always.Goals as goal

@@ -1,5 +1,4 @@
-use Rattle.std.proofs.Common.{◌≡◌, take}
-use Rattle.vlog_effects.specs.Steps.{Selection, always}
+use Rattle.elab_proc.proofs.Common.{◌≡◌, take, Selection, always}
 use Rattle.elab_proc.proofs.cases.always.Given as goal
 
 abbrev pub invariant-loop-label : goal.invariant-loop-label

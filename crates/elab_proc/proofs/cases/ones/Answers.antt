@@ -1,4 +1,4 @@
-use Rattle.std.proofs.Common.{arith}
+use Rattle.elab_proc.proofs.Common.{arith}
 use Rattle.vlog_meaning.proofs.Powers.{power_fits}
 use Rattle.elab_proc.proofs.cases.ones.Goals as goal
 

@@ -1,5 +1,4 @@
-use Rattle.std.proofs.Common.{◌≡◌, map, take}
-use Rattle.elab_proc.specs.Refusals.{same_form}
+use Rattle.elab_proc.proofs.Common.{◌≡◌, map, take, same_form}
 use Rattle.elab_proc.proofs.left_side.+form.Given as goal
 
 abbrev pub invariant-same_forms-loop-part : goal.invariant-same_forms-loop-part

@@ -1,11 +1,4 @@
-use Rattle.std.proofs.Common.{List, map, take, add-one, arith, subst, ◌∙◌, ap, sym}
-use Rattle.std.specs.List.{flat_map}
-use Rattle.std.proofs.lemmas.Grind.{flat_map-append}
-use Rattle.vlog_meaning.specs.Scopes.{names_of}
-use Rattle.vlog_effects.specs.LeftSides.{Part, parts_of, concatenated}
-use Rattle.elab_proc.specs.declared.refusal.Refusal.{Refusal}
-use Rattle.elab_proc.specs.Order.{IsFirst}
-use Rattle.elab_proc.specs.Refusals.{part_refusals}
+use Rattle.elab_proc.proofs.Common.{List, map, take, add-one, arith, subst, ◌∙◌, ap, sym, flat_map, flat_map-append, names_of, Part, parts_of, concatenated, Refusal, IsFirst, part_refusals}
 use Rattle.elab_proc.proofs.Lists.{parts_take}
 use Rattle.elab_proc.proofs.left_side.+names.Goals as goal
 

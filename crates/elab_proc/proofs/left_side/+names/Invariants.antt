@@ -1,9 +1,4 @@
-use Rattle.std.proofs.Common.{map, take}
-use Rattle.std.specs.List.{flat_map}
-use Rattle.vlog_meaning.specs.Scopes.{names_of}
-use Rattle.vlog_effects.specs.LeftSides.{parts_of, concatenated}
-use Rattle.elab_proc.specs.Order.{IsFirst}
-use Rattle.elab_proc.specs.Refusals.{part_refusals}
+use Rattle.elab_proc.proofs.Common.{map, take, flat_map, names_of, parts_of, concatenated, IsFirst, part_refusals}
 use Rattle.elab_proc.proofs.left_side.+names.Given as goal
 
 abbrev pub invariant-all_names_refusal-loop-part : goal.invariant-all_names_refusal-loop-part

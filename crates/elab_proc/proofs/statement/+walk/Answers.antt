@@ -1,23 +1,11 @@
-use Rattle.std.proofs.Common.{◌∙◌, ◌∷◌, [], map, refl, sym, ap, subst, arith, add-one, rules}
-use Rattle.std.specs.Prelude.{None, Some}
+use Rattle.elab_proc.proofs.Common.{◌∙◌, ◌∷◌, [], map, refl, sym, ap, subst, arith, add-one, rules, None, Some, the_lemmas, Decl, Constant, Names, names_of, with_name, these_nil, least_none}
+use Rattle.elab_proc.proofs.Common.{item_steps, followed, default_of, steps_of, AreSized, case_faults, own_faults, labels_in, step_refusals, loop_of, IsTurn, flat_map, Expr, least}
 use Rattle.std.proofs.lemmas.Result.{IfOk-weaker}
-use Rattle.vlog_syntax.specs.declared.stmt.Stmt.TheViews.{the_lemmas}
-use Rattle.vlog_meaning.specs.declared.scope.Decl.{Decl}
-use Rattle.vlog_meaning.specs.declared.scope.Decl.TheVariants.{Constant}
-use Rattle.vlog_meaning.specs.Scopes.{Names, names_of, with_name}
-use Rattle.vlog_meaning.proofs.Blanks.{these_nil}
-use Rattle.vlog_meaning.proofs.Firsts.{least_none}
-use Rattle.vlog_effects.specs.Laws.{item_steps}
-use Rattle.vlog_effects.specs.Steps.{followed, default_of, steps_of}
-use Rattle.elab_proc.specs.Refusals.{AreSized, case_faults, own_faults, labels_in, step_refusals}
 use Rattle.elab_proc.specs.declared.turns.Turn.TheVariants.{Ends, GoesOn}
-use Rattle.elab_proc.specs.Turns.{loop_of, IsTurn}
-use Rattle.std.specs.List.{flat_map}
 use Rattle.elab_proc.proofs.StepLemmas.{splits_start, splits_on, splits_end, block_more, bodies_more, case_some, case_none, default_labelled}
 use Rattle.elab_proc.proofs.TurnLemmas.{sized_after, some_after, alike_after, put_back, left_more, left_ends, left_none, turn_fails, turn_ends, turn_goes, turn_stops}
-use Rattle.vlog_syntax.specs.declared.expr.Expr.{Expr}
-use Rattle.vlog_meaning.specs.Answers.{least}
-use Rattle.elab_proc.proofs.WalkLemmas.{out_of_box, loop_fails, loop_goes, block_first, case_first, loop_first, both_first, only_first, items_start, items_skip, items_more, items_last, items_none, default_first, default_none}
+use Rattle.elab_proc.proofs.WalkLemmas.{out_of_box, loop_fails, loop_goes, block_first, case_first, loop_first, both_first, only_first, items_start, items_skip, items_more, items_last, items_none}
+use Rattle.elab_proc.proofs.WalkLemmas.{default_first, default_none}
 use Rattle.elab_proc.proofs.statement.+walk.Goals as goal
 
 pub block_refusal-statement_refusal-requires : goal.block_refusal-statement_refusal-requires

@@ -1,15 +1,5 @@
-use Rattle.std.proofs.Common.{◌≡◌, ◌+◌, ◌-◌, ◌*◌, map, take, drop}
-use Rattle.std.specs.Prelude.{IsSome}
-use Rattle.std.specs.List.{flat_map}
-use Rattle.vlog_syntax.specs.declared.stmt.CaseItem.{CaseItem}
-use Rattle.vlog_syntax.specs.declared.stmt.Stmt.{Stmt}
-use Rattle.vlog_syntax.specs.declared.stmt.Stmt.TheViews.{size-Stmt}
-use Rattle.vlog_meaning.specs.Scopes.{Names, names_of}
-use Rattle.vlog_effects.specs.Laws.{item_steps}
-use Rattle.vlog_effects.specs.Steps.{Selection, steps_of, default_of, turns, max_turns}
-use Rattle.elab_proc.specs.Order.{IsFirst}
-use Rattle.elab_proc.specs.Refusals.{body_in, step_refusals, AreSized}
-use Rattle.elab_proc.specs.Turns.{loop_of, AlikeBut, Splits}
+use Rattle.elab_proc.proofs.Common.{◌≡◌, ◌+◌, ◌-◌, ◌*◌, map, take, drop, IsSome, flat_map, CaseItem, Stmt, size-Stmt, Names, names_of, item_steps, Selection, steps_of, default_of, turns, max_turns}
+use Rattle.elab_proc.proofs.Common.{IsFirst, body_in, step_refusals, AreSized, loop_of, AlikeBut, Splits}
 use Rattle.elab_proc.proofs.StepLemmas.{left_refusals}
 use Rattle.elab_proc.proofs.statement.+walk.Given as goal
 

@@ -1,11 +1,4 @@
-use Rattle.std.proofs.Common.{◌∙◌, ◌++◌, map, ap}
-use Rattle.std.specs.List.{flat_map}
-use Rattle.vlog_syntax.specs.declared.expr.Expr.{Expr}
-use Rattle.vlog_meaning.specs.Answers.{least}
-use Rattle.vlog_meaning.specs.Scopes.{names_of}
-use Rattle.vlog_effects.specs.LeftSides.{parts_of}
-use Rattle.elab_proc.specs.declared.refusal.Refusal.TheVariants.{Wrong}
-use Rattle.elab_proc.specs.Refusals.{same_form, sides_faults, part_refusals, kind_refusals}
+use Rattle.elab_proc.proofs.Common.{◌∙◌, ◌++◌, map, ap, flat_map, Expr, least, names_of, parts_of, Wrong, same_form, sides_faults, part_refusals, kind_refusals}
 use Rattle.elab_proc.proofs.statement.assignment_refusal.Goals as goal
 
 pub returns : goal.returns

@@ -1,12 +1,5 @@
-use Rattle.std.proofs.Common.{◌≡◌, true, false, ℕ, refl, sym, subst, nat_eq}
-use Rattle.std.specs.Prelude.{Option, Some, None, not}
-use Rattle.vlog_meaning.specs.Scopes.{names_of, nothing}
-use Rattle.vlog_meaning.specs.Senses.{sense, assigned}
-use Rattle.vlog_effects.specs.Expressions.{constant_faults}
-use Rattle.vlog_effects.specs.Steps.{Steps, tested, flaws_of, Refuse, Turns, Done}
-use Rattle.elab_proc.specs.declared.refusal.Refusal.TheVariants.{LoopTurns}
-use Rattle.elab_proc.specs.Order.{IsFirst}
-use Rattle.elab_proc.specs.Refusals.{step_refusals}
+use Rattle.elab_proc.proofs.Common.{◌≡◌, true, false, ℕ, refl, sym, subst, nat_eq, Option, Some, None, not, names_of, nothing, sense, assigned, constant_faults, Steps, tested, flaws_of, Refuse, Turns}
+use Rattle.elab_proc.proofs.Common.{Done, LoopTurns, IsFirst, step_refusals}
 use Rattle.elab_proc.proofs.TurnLemmas.{failing, constant_stands, test_goes, test_ends, limit_first}
 use Rattle.elab_proc.proofs.turns.last_test.Goals as goal
 

@@ -1,5 +1,4 @@
-use Rattle.vlog_meaning.specs.Scopes.{names_of}
-use Rattle.elab_proc.specs.Turns.{loop_of}
+use Rattle.elab_proc.proofs.Common.{names_of, loop_of}
 use Rattle.elab_proc.proofs.TurnLemmas.{next_fails, next_goes}
 use Rattle.elab_proc.proofs.turns.next_word.Goals as goal
 

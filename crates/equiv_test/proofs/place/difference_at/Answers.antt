@@ -1,16 +1,5 @@
-use Rattle.std.proofs.Common.{◌≡◌, ◌+◌, ℕ, List, sym, ap, subst, ◌∙◌, arith}
-use Rattle.clause_store.specs.Clauses.{Values}
-use Rattle.mcy_base.specs.declared.word.Word.{Word}
-use Rattle.netlist_core.specs.declared.port.Port.{Port}
-use Rattle.netlist_core.specs.declared.port.Register.{Register}
-use Rattle.netlist_core.specs.declared.raw.RawNetlist.{RawNetlist}
-use Rattle.netlist_core.specs.Runs.{bits_at, q_bits}
-use Rattle.netlist_core.specs.Checked.{Plan, AllWide, all_bits}
-use Rattle.netlist_gates.specs.Meanings.{free_numbers, input_numbers, register_numbers}
-use Rattle.sat_solver.specs.Found.{listed_values}
-use Rattle.cycle_sim.specs.Simulated.{HaveWidths, numbers_of}
-use Rattle.pair_gates.specs.Differences.{Differ}
-use Rattle.equiv_test.specs.Verdicts.{DifferAt}
+use Rattle.equiv_test.proofs.Common.{◌≡◌, ◌+◌, ℕ, List, sym, ap, subst, ◌∙◌, arith, Values, Word, Port, Register, RawNetlist, bits_at, q_bits, Plan, AllWide, all_bits, free_numbers, input_numbers}
+use Rattle.equiv_test.proofs.Common.{register_numbers, listed_values, HaveWidths, numbers_of, Differ, DifferAt}
 use Rattle.equiv_test.proofs.Apart.{registers-wide}
 use Rattle.equiv_test.proofs.place.difference_at.Goals as goal
 

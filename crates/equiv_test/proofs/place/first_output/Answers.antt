@@ -1,6 +1,4 @@
-use Rattle.std.proofs.Common.{◌≡◌, ℕ, List, length, sym, ◌∙◌, arith}
-use Rattle.netlist_core.specs.Runs.{plain, shown}
-use Rattle.cycle_sim.specs.Simulated.{Simulated, settled_nets}
+use Rattle.equiv_test.proofs.Common.{◌≡◌, ℕ, List, length, sym, ◌∙◌, arith, plain, shown, Simulated, settled_nets}
 use Rattle.equiv_test.proofs.Apart.{differ-first, same-more, same-lists, shown-long}
 use Rattle.equiv_test.proofs.place.first_output.Goals as goal
 

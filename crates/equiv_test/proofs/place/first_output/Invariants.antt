@@ -1,7 +1,4 @@
-use Rattle.std.proofs.Common.{◌≡◌, ℕ, ◌<◌}
-use Rattle.std.specs.Prelude.{slice_get}
-use Rattle.netlist_core.specs.Runs.{plain, shown}
-use Rattle.cycle_sim.specs.Simulated.{settled_nets}
+use Rattle.equiv_test.proofs.Common.{◌≡◌, ℕ, ◌<◌, slice_get, plain, shown, settled_nets}
 use Rattle.equiv_test.proofs.place.first_output.Given as goal
 
 abbrev pub invariant-loop-place : goal.invariant-loop-place

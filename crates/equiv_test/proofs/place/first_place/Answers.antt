@@ -1,11 +1,4 @@
-use Rattle.std.proofs.Common.{◌≡◌, ℕ, List, length, sym, ap, ◌∙◌, arith}
-use Rattle.netlist_core.specs.declared.port.Port.{Port}
-use Rattle.netlist_core.specs.declared.port.Register.{Register}
-use Rattle.netlist_core.specs.declared.raw.RawNetlist.{RawNetlist}
-use Rattle.netlist_core.specs.Runs.{bits_at, q_bits}
-use Rattle.netlist_core.specs.Checked.{Plan}
-use Rattle.cycle_sim.specs.Simulated.{numbers_of, settled_nets}
-use Rattle.pair_gates.proofs.Widths.{ports-same, registers-same}
+use Rattle.equiv_test.proofs.Common.{◌≡◌, ℕ, List, length, sym, ap, ◌∙◌, arith, Port, Register, RawNetlist, bits_at, q_bits, Plan, numbers_of, settled_nets, ports-same, registers-same}
 use Rattle.equiv_test.proofs.Apart.{have-same, taken-long}
 use Rattle.equiv_test.proofs.Placing.{outputs-few, stored-few, outputs-alike, registers-alike, output-differs, register-differs, none-differs}
 use Rattle.equiv_test.proofs.place.first_place.Goals as goal

@@ -1,4 +1,4 @@
-use Rattle.std.proofs.Common.{sym, ◌∙◌, arith}
+use Rattle.equiv_test.proofs.Common.{sym, ◌∙◌, arith}
 use Rattle.equiv_test.proofs.Apart.{differ-first, same-more, same-lists}
 use Rattle.equiv_test.proofs.place.first_register.Goals as goal
 

@@ -1,5 +1,4 @@
-use Rattle.std.proofs.Common.{◌≡◌, ℕ, ◌<◌}
-use Rattle.std.specs.Prelude.{slice_get}
+use Rattle.equiv_test.proofs.Common.{◌≡◌, ℕ, ◌<◌, slice_get}
 use Rattle.equiv_test.proofs.place.first_register.Given as goal
 
 abbrev pub invariant-loop-place : goal.invariant-loop-place

@@ -1,7 +1,4 @@
-use Rattle.std.proofs.Common.{ℕ, List, sym, subst}
-use Rattle.netlist_core.specs.Runs.{Nets, plain, Holds, bits_at}
-use Rattle.netlist_core.specs.Checked.{Plan}
-use Rattle.cycle_sim.specs.Simulated.{HaveWidths, numbers_of, settled_nets}
+use Rattle.equiv_test.proofs.Common.{ℕ, List, sym, subst, Nets, plain, Holds, bits_at, Plan, HaveWidths, numbers_of, settled_nets}
 use Rattle.equiv_test.proofs.place.settle_at.Goals as goal
 
 pub settle-requires : goal.settle-requires

@@ -1,6 +1,4 @@
-use Rattle.std.proofs.Common.{◌≡◌, sym, subst}
-use Rattle.clause_store.specs.Clauses.{IsModel}
-use Rattle.lrat_checker.specs.LegalLogs.{Log, EndsEmpty}
+use Rattle.equiv_test.proofs.Common.{◌≡◌, sym, subst, IsModel, Log, EndsEmpty}
 use Rattle.equiv_test.proofs.turning.refutation.Goals as goal
 
 pub returns-clause-unsatisfiable : goal.returns-clause-unsatisfiable

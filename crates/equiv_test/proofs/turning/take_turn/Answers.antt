@@ -1,6 +1,4 @@
-use Rattle.std.proofs.Common.{◌∙◌}
-use Rattle.netlist_core.specs.Checked.{Plan}
-use Rattle.sat_solver.specs.Found.{Hunt, listed_values}
+use Rattle.equiv_test.proofs.Common.{◌∙◌, Plan, Hunt, listed_values}
 use Rattle.equiv_test.proofs.Telling.{is-found, tells-change, model-differs, clauses-are, tells-no-change, tells-unknown}
 use Rattle.equiv_test.proofs.turning.take_turn.Goals as goal
 

@@ -1,5 +1,4 @@
-use Rattle.std.proofs.Common.{arith}
-use Rattle.step_trials.proofs.TableLemmas.{small}
+use Rattle.equiv_test.proofs.Common.{arith, small}
 use Rattle.equiv_test.proofs.Reading.{doubled-fits}
 use Rattle.equiv_test.proofs.words.+number_from.Goals as goal
 

@@ -1,9 +1,5 @@
-use Rattle.std.proofs.Common.{◌≡◌, ℕ, ◌+◌, ◌≤◌, List, [], length, get_or, sym, ◌∙◌, subst, arith}
-use Rattle.mcy_base.specs.declared.word.Word.{Word}
-use Rattle.netlist_core.specs.declared.bit.Bit.{Bit}
-use Rattle.netlist_core.specs.Runs.{bits_at}
-use Rattle.sat_solver.specs.Found.{listed_values}
-use Rattle.equiv_test.proofs.Reading.{Laid, laid-room, laid-more, wide-at, port-inside, port-at}
+use Rattle.equiv_test.proofs.Common.{◌≡◌, ℕ, ◌+◌, ◌≤◌, List, [], length, get_or, sym, ◌∙◌, subst, arith, Word, Bit, bits_at, listed_values, wide-at}
+use Rattle.equiv_test.proofs.Reading.{Laid, laid-room, laid-more, port-inside, port-at}
 use Rattle.equiv_test.proofs.words.input_words.Goals as goal
 
 pub word_from-requires-clause-wide : goal.word_from-requires-clause-wide

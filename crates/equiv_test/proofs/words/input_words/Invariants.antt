@@ -1,5 +1,4 @@
-use Rattle.netlist_core.specs.Runs.{bits_at}
-use Rattle.sat_solver.specs.Found.{listed_values}
+use Rattle.equiv_test.proofs.Common.{bits_at, listed_values}
 use Rattle.equiv_test.proofs.Reading.{Laid}
 use Rattle.equiv_test.proofs.words.input_words.Given as goal
 

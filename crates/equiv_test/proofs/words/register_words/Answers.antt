@@ -1,9 +1,5 @@
-use Rattle.std.proofs.Common.{◌≡◌, ℕ, ◌+◌, ◌≤◌, List, [], length, get_or, sym, ◌∙◌, subst, arith}
-use Rattle.mcy_base.specs.declared.word.Word.{Word}
-use Rattle.netlist_core.specs.declared.bit.Bit.{Bit}
-use Rattle.netlist_core.specs.Runs.{q_bits}
-use Rattle.sat_solver.specs.Found.{listed_values}
-use Rattle.equiv_test.proofs.Reading.{Laid, laid-room, laid-more, wide-at, register-inside, register-at}
+use Rattle.equiv_test.proofs.Common.{◌≡◌, ℕ, ◌+◌, ◌≤◌, List, [], length, get_or, sym, ◌∙◌, subst, arith, Word, Bit, q_bits, listed_values, wide-at}
+use Rattle.equiv_test.proofs.Reading.{Laid, laid-room, laid-more, register-inside, register-at}
 use Rattle.equiv_test.proofs.words.register_words.Goals as goal
 
 pub word_from-requires-clause-wide : goal.word_from-requires-clause-wide

@@ -1,5 +1,4 @@
-use Rattle.netlist_core.specs.Runs.{q_bits}
-use Rattle.sat_solver.specs.Found.{listed_values}
+use Rattle.equiv_test.proofs.Common.{q_bits, listed_values}
 use Rattle.equiv_test.proofs.Reading.{Laid}
 use Rattle.equiv_test.proofs.words.register_words.Given as goal
 

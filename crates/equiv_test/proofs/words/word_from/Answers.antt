@@ -1,5 +1,4 @@
-use Rattle.std.proofs.Common.{◌∙◌}
-use Rattle.step_trials.proofs.TableLemmas.{some-word, word-parts}
+use Rattle.equiv_test.proofs.Common.{◌∙◌, some-word, word-parts}
 use Rattle.equiv_test.proofs.words.word_from.Goals as goal
 
 pub unwrap-requires : goal.unwrap-requires

@@ -1,8 +1,4 @@
-use Rattle.std.proofs.Common.{refl, ap, ◌∙◌, take, add-one, arith}
-use Rattle.vlog_meaning.specs.Scopes.{names_of}
-use Rattle.vlog_meaning.specs.Senses.{index_features}
-use Rattle.vlog_meaning.proofs.Refusals.{least_empty, pair_first}
-use Rattle.expr_plans.specs.Made.{Plan, plan, plans, all_unsupported, base_features}
+use Rattle.expr_plans.proofs.Common.{refl, ap, ◌∙◌, take, add-one, arith, names_of, index_features, least_empty, pair_first, Plan, plan, plans, all_unsupported, base_features}
 use Rattle.expr_plans.proofs.Plans.{none_unsupported, index_unsupported, pair_unsupported, plans_take, plan_number, plan_name, plan_part_select, plan_bit_select, plan_indexed_part_select}
 use Rattle.expr_plans.proofs.unsupported.+unsupported.Goals as goal
 

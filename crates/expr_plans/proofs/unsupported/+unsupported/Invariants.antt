@@ -1,7 +1,4 @@
-use Rattle.std.proofs.Common.{◌≡◌, take}
-use Rattle.vlog_meaning.specs.Scopes.{names_of}
-use Rattle.vlog_meaning.specs.Answers.{least}
-use Rattle.expr_plans.specs.Made.{plans, all_unsupported}
+use Rattle.expr_plans.proofs.Common.{◌≡◌, take, names_of, least, plans, all_unsupported}
 use Rattle.expr_plans.proofs.unsupported.+unsupported.Given as goal
 
 abbrev pub invariant-unsupported_in_all-loop-expr : goal.invariant-unsupported_in_all-loop-expr

@@ -1,4 +1,4 @@
-use Rattle.std.proofs.Common.{ap, map, string_bytes}
+use Rattle.std.proofs.Common.{Some, ap, map, string_bytes}
 use Rattle.file_calls.proofs.OnFiles.{cause_on, lived_on, none_on, ready_on}
 use Rattle.file_calls.proofs.call.call_on_file.Goals as goal
 
@@ -17,6 +17,9 @@ pub returns-clause-life : goal.returns-clause-life
 returns-clause-life g c tells =
     lived_on (map string_bytes c.args.words.now) (g.F.SourceFiles.held c.args.files.now) _ _ _ (λ left was. (c.new-opening.ensures.leaves left).0 was) _
     (g.O.Sink.written c.args.out.now) (g.O.Sink.written c.mcy_call-outcome.new.out) c.mcy_call-outcome.result (c.mcy_call-outcome.ensures.life tells)
+
+pub returns-clause-pass : goal.returns-clause-pass
+returns-clause-pass g c tells passes = c.mcy_call-outcome.ensures.pass tells (λ book left. passes book ((c.new-opening.ensures.leaves (Some book)).0 left))
 
 pub returns-clause-complete : goal.returns-clause-complete
 returns-clause-complete g c tells command ready none =

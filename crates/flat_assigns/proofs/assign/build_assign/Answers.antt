@@ -1,12 +1,4 @@
-use Rattle.std.proofs.Common.{◌≡◌, ℕ, [], sym, ap, ◌∙◌, subst, arith}
-use Rattle.vlog_meaning.specs.Scopes.{names_of}
-use Rattle.std.specs.List.{flat_map}
-use Rattle.vlog_effects.specs.LeftSides.{parts_of}
-use Rattle.flat_assigns.specs.Parts.{slices_of}
-use Rattle.flat_assigns.specs.Sides.{slices, target_faults}
-use Rattle.flat_assigns.specs.Values.{right_refusals}
-use Rattle.std.proofs.Common.{List, ◌++◌}
-use Rattle.flat_assigns.specs.Sides.{Slice}
+use Rattle.flat_assigns.proofs.Common.{◌≡◌, ℕ, [], sym, ap, ◌∙◌, subst, arith, names_of, flat_map, parts_of, slices_of, slices, target_faults, right_refusals, List, ◌++◌, Slice}
 use Rattle.flat_assigns.proofs.Refusals.{faults_at, form_accepted, nothing_refused, places_fit, right_accepted, width_is}
 use Rattle.flat_assigns.proofs.assign.build_assign.Goals as goal
 

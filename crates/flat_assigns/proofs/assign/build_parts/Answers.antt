@@ -1,12 +1,4 @@
-use Rattle.std.proofs.Common.{◌≡◌, ◌+◌, [], length, sym, subst}
-use Rattle.vlog_meaning.specs.declared.shapes.Shape.{Shape}
-use Rattle.vlog_meaning.specs.Scopes.{names_of}
-use Rattle.elab_expr.specs.Expressions.{refusals}
-use Rattle.expr_plans.specs.Made.{made}
-use Rattle.net_builder.specs.Refusals.{IsShort}
-use Rattle.flat_assigns.specs.Parts.{slices_of}
-use Rattle.flat_assigns.specs.Sides.{all_places}
-use Rattle.flat_assigns.specs.Values.{right_cells, right_shape}
+use Rattle.flat_assigns.proofs.Common.{◌≡◌, ◌+◌, [], length, sym, subst, Shape, names_of, refusals, made, IsShort, slices_of, all_places, right_cells, right_shape}
 use Rattle.flat_assigns.proofs.Adding.{own_between, parts_built, signals_between}
 use Rattle.flat_assigns.proofs.Laying.{value_laid}
 use Rattle.flat_assigns.proofs.Scans.{all_same}

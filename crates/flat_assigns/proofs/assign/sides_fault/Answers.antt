@@ -1,11 +1,4 @@
-use Rattle.std.proofs.Common.{◌∙◌, ap}
-use Rattle.vlog_meaning.specs.declared.shapes.Shape.{Shape}
-use Rattle.vlog_meaning.specs.Answers.{least}
-use Rattle.vlog_meaning.specs.Scopes.{names_of}
-use Rattle.vlog_meaning.specs.Senses.{sense}
-use Rattle.vlog_meaning.proofs.Blanks.{left_nil}
-use Rattle.elab_proc.specs.Refusals.{wrong, divisions}
-use Rattle.flat_assigns.specs.Values.{right_shape}
+use Rattle.flat_assigns.proofs.Common.{◌∙◌, ap, Shape, least, names_of, sense, left_nil, wrong, divisions, right_shape}
 use Rattle.flat_assigns.proofs.Refusals.{form_free, right_free, sides_right, sides_wrong}
 use Rattle.flat_assigns.proofs.assign.sides_fault.Goals as goal
 

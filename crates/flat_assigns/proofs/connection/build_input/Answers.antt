@@ -1,15 +1,5 @@
-use Rattle.std.proofs.Common.{◌≡◌, ◌+◌, ◌<◌, List, [], length, sym, ◌∙◌, ap, subst, arith}
-use Rattle.std.specs.Prelude.{slice_index_or}
-use Rattle.netlist_core.specs.declared.bit.Bit.{Bit}
-use Rattle.vlog_meaning.specs.declared.shapes.Shape.{Shape}
-use Rattle.vlog_meaning.specs.Answers.{least}
-use Rattle.vlog_meaning.specs.Scopes.{names_of}
-use Rattle.vlog_meaning.specs.Senses.{IsWhole}
-use Rattle.net_builder.specs.Building.{signal}
+use Rattle.flat_assigns.proofs.Common.{◌≡◌, ◌+◌, ◌<◌, List, [], length, sym, ◌∙◌, ap, subst, arith, slice_index_or, Bit, Shape, least, names_of, IsWhole, signal, made, IsShort, right_shape}
 use Rattle.net_builder.specs.Errors.{elab_error}
-use Rattle.expr_plans.specs.Made.{made}
-use Rattle.net_builder.specs.Refusals.{IsShort}
-use Rattle.flat_assigns.specs.Values.{right_shape}
 use Rattle.flat_assigns.proofs.Adding.{own_between, signals_between, input_built}
 use Rattle.flat_assigns.proofs.Laying.{input_laid}
 use Rattle.flat_assigns.proofs.Shapes.{same_refusals, whole_built, whole_from}

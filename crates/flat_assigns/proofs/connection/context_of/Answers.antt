@@ -1,7 +1,4 @@
-use Rattle.std.proofs.Common.{sym, ◌∙◌}
-use Rattle.vlog_meaning.specs.Scopes.{names_of}
-use Rattle.vlog_meaning.specs.Senses.{sense}
-use Rattle.vlog_meaning.proofs.Firsts.{least_none}
+use Rattle.flat_assigns.proofs.Common.{sym, ◌∙◌, names_of, sense, least_none}
 use Rattle.flat_assigns.proofs.Shapes.{some_wrong}
 use Rattle.flat_assigns.proofs.connection.context_of.Goals as goal
 

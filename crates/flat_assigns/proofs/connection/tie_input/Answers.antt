@@ -1,4 +1,4 @@
-use Rattle.std.proofs.Common.{length, ap, arith}
+use Rattle.flat_assigns.proofs.Common.{length, ap, arith}
 use Rattle.flat_assigns.proofs.Adding.{tie_built}
 use Rattle.flat_assigns.proofs.Laying.{open_laid}
 use Rattle.flat_assigns.proofs.connection.tie_input.Goals as goal

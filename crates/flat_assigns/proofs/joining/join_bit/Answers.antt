@@ -1,4 +1,4 @@
-use Rattle.flat_runs.proofs.Signals.{net_of}
+use Rattle.flat_assigns.proofs.Common.{net_of}
 use Rattle.flat_assigns.proofs.Joins.{no_constant}
 use Rattle.flat_assigns.proofs.joining.join_bit.Goals as goal
 

@@ -1,4 +1,4 @@
-use Rattle.std.proofs.Common.{◌≡◌, ◌+◌, ◌<◌, length, arith}
+use Rattle.flat_assigns.proofs.Common.{◌≡◌, ◌+◌, ◌<◌, length, arith}
 use Rattle.flat_assigns.proofs.Steps.{part_step}
 use Rattle.flat_assigns.proofs.joining.join_part.Goals as goal
 

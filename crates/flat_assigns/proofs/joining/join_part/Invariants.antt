@@ -1,7 +1,4 @@
-use Rattle.std.proofs.Common.{drop, map}
-use Rattle.flat_assigns.specs.Built.{IsJoinedTo}
-use Rattle.flat_assigns.specs.Parts.{first_bits}
-use Rattle.flat_assigns.specs.Sides.{placed}
+use Rattle.flat_assigns.proofs.Common.{drop, map, IsJoinedTo, first_bits, placed}
 use Rattle.flat_assigns.proofs.joining.join_part.Given as goal
 
 abbrev pub invariant-loop-k : goal.invariant-loop-k

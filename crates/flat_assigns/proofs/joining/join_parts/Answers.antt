@@ -1,15 +1,12 @@
-use Rattle.std.proofs.Common.{rules, ◌≡◌, ◌+◌, ◌-◌, ◌<◌, ◌≤◌, ℕ, get_or, length, drop, subst, arith}
-use Rattle.flat_assigns.specs.Built.{IsJoinedTo}
-use Rattle.flat_assigns.specs.Parts.{slices_of}
-use Rattle.flat_assigns.specs.Sides.{all_places}
+use Rattle.flat_assigns.proofs.Common.{rules, ◌≡◌, ◌+◌, ◌-◌, ◌<◌, ◌≤◌, ℕ, get_or, length, drop, subst, arith, IsJoinedTo, slices_of, all_places}
 use Rattle.flat_assigns.proofs.Joins.{signals_joined}
-use Rattle.flat_assigns.proofs.Scans.{inside_at, inside_same, join_step, no_part, room_step, size_step}
+use Rattle.flat_assigns.proofs.Scans.{inside_at, join_step, no_part, room_step, size_step, part_same}
 use Rattle.flat_assigns.proofs.joining.join_parts.Goals as goal
 
 pub join_part-requires-clause-inside : goal.join_part-requires-clause-inside
 join_part-requires-clause-inside c =
     let less : c.loop-k.k - 1 < length c.args.slices.now = omega (arith, c.loop-k.invariant.within, c.loop-k-test.true) in
-    inside_same c.args.builder.now c.loop-k.builder (get_or c.args.slices.now (c.loop-k.k - 1) no_part) (signals_joined c.args.builder.now c.loop-k.builder (all_places (slices_of (drop c.loop-k.k c.args.slices.now))) c.args.bits.now c.loop-k.invariant.joined) (inside_at c.args.builder.now c.args.slices.now (c.loop-k.k - 1) no_part c.requires.inside less)
+    part_same c.args.builder.now c.loop-k.builder (get_or c.args.slices.now (c.loop-k.k - 1) no_part) (signals_joined c.args.builder.now c.loop-k.builder (all_places (slices_of (drop c.loop-k.k c.args.slices.now))) c.args.bits.now c.loop-k.invariant.joined) (inside_at c.args.builder.now c.args.slices.now (c.loop-k.k - 1) no_part c.requires.inside less)
 
 pub join_part-requires-clause-enough : goal.join_part-requires-clause-enough
 join_part-requires-clause-enough c =

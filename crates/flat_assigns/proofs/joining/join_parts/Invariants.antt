@@ -1,7 +1,4 @@
-use Rattle.std.proofs.Common.{◌≡◌, ◌≤◌, length, drop}
-use Rattle.flat_assigns.specs.Built.{IsJoinedTo}
-use Rattle.flat_assigns.specs.Parts.{slices_of}
-use Rattle.flat_assigns.specs.Sides.{all_places}
+use Rattle.flat_assigns.proofs.Common.{◌≡◌, ◌≤◌, length, drop, IsJoinedTo, slices_of, all_places}
 use Rattle.flat_assigns.proofs.joining.join_parts.Given as goal
 
 abbrev pub invariant-loop-k : goal.invariant-loop-k

@@ -1,4 +1,4 @@
-use Rattle.std.proofs.Common.{◌≡◌, ◌<◌, length, arith}
+use Rattle.flat_assigns.proofs.Common.{◌≡◌, ◌<◌, length, arith}
 use Rattle.flat_assigns.proofs.Joins.{port_step}
 use Rattle.flat_assigns.proofs.joining.join_port.Goals as goal
 

@@ -1,5 +1,4 @@
-use Rattle.flat_runs.specs.Parts.{places_from}
-use Rattle.flat_assigns.specs.Built.{IsJoinedTo}
+use Rattle.flat_assigns.proofs.Common.{places_from, IsJoinedTo}
 use Rattle.flat_assigns.proofs.joining.join_port.Given as goal
 
 abbrev pub invariant-loop-k : goal.invariant-loop-k

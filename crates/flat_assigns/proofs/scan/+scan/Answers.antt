@@ -1,5 +1,4 @@
-use Rattle.std.proofs.Common.{add-one}
-use Rattle.vlog_meaning.specs.Scopes.{names_of}
+use Rattle.flat_assigns.proofs.Common.{add-one, names_of}
 use Rattle.flat_assigns.proofs.Leaves.{is_bit, is_indexed}
 use Rattle.flat_assigns.proofs.Scans.{scanned_more, scanned_none}
 use Rattle.flat_assigns.proofs.scan.+scan.Goals as goal

@@ -1,7 +1,4 @@
-use Rattle.std.proofs.Common.{map, take}
-use Rattle.vlog_meaning.specs.Scopes.{names_of}
-use Rattle.vlog_effects.specs.LeftSides.{concatenated, parts_of}
-use Rattle.flat_assigns.specs.Parts.{IsScanned}
+use Rattle.flat_assigns.proofs.Common.{map, take, names_of, concatenated, parts_of, IsScanned}
 use Rattle.flat_assigns.proofs.scan.+scan.Given as goal
 
 abbrev pub invariant-scan_all-loop-part : goal.invariant-scan_all-loop-part

@@ -1,5 +1,4 @@
-use Rattle.std.proofs.Common.{refl}
-use Rattle.vlog_meaning.specs.Scopes.{names_of}
+use Rattle.flat_assigns.proofs.Common.{refl, names_of}
 use Rattle.flat_assigns.proofs.Leaves.{indexed_form, indexed_index, indexed_kept, indexed_refused}
 use Rattle.flat_assigns.proofs.scan.indexed.Goals as goal
 

@@ -1,5 +1,4 @@
-use Rattle.std.proofs.Common.{refl}
-use Rattle.vlog_meaning.specs.Scopes.{names_of}
+use Rattle.flat_assigns.proofs.Common.{refl, names_of}
 use Rattle.flat_assigns.proofs.Leaves.{range_bound, range_form, range_kept, range_refused}
 use Rattle.flat_assigns.proofs.scan.range.Goals as goal
 

@@ -1,5 +1,4 @@
-use Rattle.std.proofs.Common.{ℕ, [], ◌∷◌, Option, sym, ◌∙◌, subst}
-use Rattle.flat_assigns.specs.Seen.{IsPassed}
+use Rattle.flat_assigns.proofs.Common.{ℕ, [], ◌∷◌, Option, sym, ◌∙◌, subst, IsPassed}
 use Rattle.flat_assigns.proofs.Firsts.{passed_one}
 use Rattle.flat_assigns.proofs.second.bit_is_taken.Goals as goal
 

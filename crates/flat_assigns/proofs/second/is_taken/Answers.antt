@@ -1,9 +1,6 @@
-use Rattle.std.proofs.Common.{sym, ◌∙◌}
-use Rattle.flat_runs.proofs.Signals.{net_of}
+use Rattle.flat_assigns.proofs.Common.{sym, ◌∙◌, net_of, Fixed, false}
 use Rattle.flat_assigns.proofs.Firsts.{bit_is, met_takes}
 use Rattle.flat_assigns.proofs.Joins.{no_constant}
-use Rattle.netlist_core.specs.declared.bit.Bit.TheVariants.{Fixed}
-use Rattle.std.proofs.Common.{false}
 use Rattle.flat_assigns.proofs.second.is_taken.Goals as goal
 
 pub returns-in_ok-is_met-in-Net : goal.returns-in_ok-is_met-in-Net

@@ -1,8 +1,4 @@
-use Rattle.std.proofs.Common.{◌≡◌, ℕ, false, subst, arith}
-use Rattle.flat_assigns.specs.Parts.{first_bits}
-use Rattle.flat_assigns.specs.Seen.{IsPassed, places_of}
-use Rattle.flat_assigns.specs.Writers.{bit_targets}
-use Rattle.std.proofs.Common.{◌++◌}
+use Rattle.flat_assigns.proofs.Common.{◌≡◌, ℕ, false, subst, arith, first_bits, IsPassed, places_of, bit_targets, ◌++◌}
 use Rattle.flat_assigns.proofs.Firsts.{part_hit, part_on}
 use Rattle.flat_assigns.proofs.second.part_is_taken.Goals as goal
 

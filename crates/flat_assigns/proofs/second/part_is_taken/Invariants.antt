@@ -1,7 +1,4 @@
-use Rattle.std.proofs.Common.{List, false}
-use Rattle.flat_runs.specs.Meanings.{Place}
-use Rattle.flat_assigns.specs.Parts.{first_bits}
-use Rattle.flat_assigns.specs.Seen.{HasSeen, IsPassed}
+use Rattle.flat_assigns.proofs.Common.{List, false, Place, first_bits, HasSeen, IsPassed}
 use Rattle.flat_assigns.proofs.second.part_is_taken.Given as goal
 
 abbrev pub invariant-loop-k : goal.invariant-loop-k

@@ -1,7 +1,4 @@
-use Rattle.std.proofs.Common.{take}
-use Rattle.flat_assigns.specs.Parts.{slices_of}
-use Rattle.flat_assigns.specs.Seen.{places_of}
-use Rattle.flat_assigns.specs.Writers.{targets}
+use Rattle.flat_assigns.proofs.Common.{take, slices_of, places_of, targets}
 use Rattle.flat_assigns.proofs.Firsts.{writer_hit, writer_on}
 use Rattle.flat_assigns.proofs.Scans.{inside_at, no_part}
 use Rattle.flat_assigns.proofs.second.second_writer.Goals as goal

@@ -1,7 +1,4 @@
-use Rattle.std.proofs.Common.{[], None, take}
-use Rattle.flat_assigns.specs.Parts.{slices_of}
-use Rattle.flat_assigns.specs.Seen.{HasSeen, places_of}
-use Rattle.flat_assigns.specs.Writers.{IsFirstWritten, targets}
+use Rattle.flat_assigns.proofs.Common.{[], None, take, slices_of, HasSeen, places_of, IsFirstWritten, targets}
 use Rattle.flat_assigns.proofs.second.second_writer.Given as goal
 
 abbrev pub invariant-loop-slice : goal.invariant-loop-slice

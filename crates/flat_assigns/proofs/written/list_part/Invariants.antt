@@ -1,7 +1,4 @@
-use Rattle.std.proofs.Common.{◌≡◌, ◌++◌}
-use Rattle.flat_assigns.specs.Bits.{targets_of}
-use Rattle.flat_assigns.specs.Parts.{first_bits}
-use Rattle.flat_assigns.specs.Writers.{bit_targets}
+use Rattle.flat_assigns.proofs.Common.{◌≡◌, ◌++◌, targets_of, first_bits, bit_targets}
 use Rattle.flat_assigns.proofs.written.list_part.Given as goal
 
 abbrev pub invariant-loop-k : goal.invariant-loop-k

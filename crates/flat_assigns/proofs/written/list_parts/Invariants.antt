@@ -1,7 +1,4 @@
-use Rattle.std.proofs.Common.{◌≡◌, take}
-use Rattle.flat_assigns.specs.Bits.{targets_of}
-use Rattle.flat_assigns.specs.Parts.{slices_of}
-use Rattle.flat_assigns.specs.Writers.{targets}
+use Rattle.flat_assigns.proofs.Common.{◌≡◌, take, targets_of, slices_of, targets}
 use Rattle.flat_assigns.proofs.written.list_parts.Given as goal
 
 abbrev pub invariant-loop-part : goal.invariant-loop-part

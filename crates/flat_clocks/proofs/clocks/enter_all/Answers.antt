@@ -1,8 +1,4 @@
-use Rattle.std.proofs.Common.{ap, ◌∙◌, sym, List, add-one, arith}
-use Rattle.flat_items.specs.Views.{flat_of}
-use Rattle.flat_instances.specs.declared.item.FlatItem.{FlatItem}
-use Rattle.flat_clocks.specs.Clocks.{with_items}
-use Rattle.flat_clocks.specs.Views.{sources_in}
+use Rattle.flat_clocks.proofs.Common.{ap, ◌∙◌, sym, List, add-one, arith, flat_of, FlatItem, with_items, sources_in}
 use Rattle.flat_clocks.proofs.Sources.{item_more, dropped}
 use Rattle.flat_clocks.proofs.clocks.enter_all.Goals as goal
 

@@ -1,7 +1,4 @@
-use Rattle.std.proofs.Common.{◌≡◌, drop}
-use Rattle.flat_items.specs.Views.{flat_of}
-use Rattle.flat_clocks.specs.Clocks.{with_items}
-use Rattle.flat_clocks.specs.Views.{sources_in}
+use Rattle.flat_clocks.proofs.Common.{◌≡◌, drop, flat_of, with_items, sources_in}
 use Rattle.flat_clocks.proofs.clocks.enter_all.Given as goal
 
 abbrev pub invariant-loop-item : goal.invariant-loop-item

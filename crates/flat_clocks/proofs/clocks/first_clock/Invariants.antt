@@ -1,6 +1,4 @@
-use Rattle.std.proofs.Common.{◌≡◌, drop}
-use Rattle.flat_items.specs.Views.{flat_of}
-use Rattle.flat_clocks.specs.Clocks.{first_clock}
+use Rattle.flat_clocks.proofs.Common.{◌≡◌, drop, flat_of, first_clock}
 use Rattle.flat_clocks.proofs.clocks.first_clock.Given as goal
 
 abbrev pub invariant-loop-item : goal.invariant-loop-item

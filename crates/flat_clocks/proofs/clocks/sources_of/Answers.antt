@@ -1,4 +1,4 @@
-use Rattle.flat_items.specs.Views.{flat_of}
+use Rattle.flat_clocks.proofs.Common.{flat_of}
 use Rattle.flat_clocks.proofs.Sources.{all_passed}
 use Rattle.flat_clocks.proofs.clocks.sources_of.Goals as goal
 

@@ -1,6 +1,4 @@
-use Rattle.std.proofs.Common.{ap, ◌∙◌}
-use Rattle.std.specs.Prelude.{None}
-use Rattle.vlog_meaning.specs.Scopes.{Names, names_of, with_name}
+use Rattle.flat_clocks.proofs.Common.{ap, ◌∙◌, None, Names, names_of, with_name}
 use Rattle.flat_clocks.proofs.Hiding.{declared_again}
 use Rattle.flat_clocks.proofs.names.with_name.Goals as goal
 

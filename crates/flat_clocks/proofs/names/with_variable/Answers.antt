@@ -1,7 +1,4 @@
-use Rattle.std.proofs.lemmas.Result.{IfOk-weaker}
-use Rattle.vlog_syntax.specs.declared.left_side.LeftSide.{out-LeftSide}
-use Rattle.vlog_meaning.specs.Scopes.{names_of}
-use Rattle.vlog_effects.specs.Steps.{name_alone}
+use Rattle.flat_clocks.proofs.Common.{IfOk-weaker, out-LeftSide, names_of, name_alone}
 use Rattle.flat_clocks.proofs.Hiding.{named_hidden}
 use Rattle.flat_clocks.proofs.names.with_variable.Goals as goal
 

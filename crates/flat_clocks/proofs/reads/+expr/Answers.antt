@@ -1,7 +1,4 @@
-use Rattle.std.proofs.Common.{refl, add-one, arith}
-use Rattle.std.specs.Prelude.{None}
-use Rattle.flat_clocks.specs.Reads.{expr_reads}
-use Rattle.flat_clocks.specs.Views.{names_in}
+use Rattle.flat_clocks.proofs.Common.{refl, add-one, arith, None, expr_reads, names_in}
 use Rattle.flat_clocks.proofs.Firsts.{moved, more}
 use Rattle.flat_clocks.proofs.Expressions.{number_first, bit_first, part_first, indexed_first, binary_first, conditional_first, concatenation_first, multiple_first, call_first}
 use Rattle.flat_clocks.proofs.reads.+expr.Goals as goal

@@ -1,9 +1,7 @@
-use Rattle.std.proofs.Common.{refl, add-one, arith}
-use Rattle.std.specs.Prelude.{None}
-use Rattle.flat_clocks.specs.Reads.{form_reads}
-use Rattle.flat_clocks.specs.Views.{names_in}
+use Rattle.flat_clocks.proofs.Common.{refl, add-one, arith, None, form_reads, names_in}
 use Rattle.flat_clocks.proofs.Firsts.{more}
-use Rattle.flat_clocks.proofs.Expressions.{bit_form, part_form, indexed_form, concatenation_form, number_form, name_form, inner_form, unary_form, binary_form, conditional_form, multiple_form, call_form}
+use Rattle.flat_clocks.proofs.Expressions.{bit_form, part_form, indexed_form, concatenation_form, number_form, name_form, inner_form, unary_form, binary_form, conditional_form, multiple_form}
+use Rattle.flat_clocks.proofs.Expressions.{call_form}
 use Rattle.flat_clocks.proofs.reads.+form.Goals as goal
 
 pub form_read-returns-in-BitSelect : goal.form_read-returns-in-BitSelect

@@ -1,8 +1,4 @@
-use Rattle.std.proofs.Common.{take}
-use Rattle.std.specs.List.{flat_map}
-use Rattle.elab_proc.specs.Order.{IsFirst}
-use Rattle.flat_clocks.specs.Reads.{form_reads}
-use Rattle.flat_clocks.specs.Views.{names_in}
+use Rattle.flat_clocks.proofs.Common.{take, flat_map, IsFirst, form_reads, names_in}
 use Rattle.flat_clocks.proofs.reads.+form.Given as goal
 
 abbrev pub invariant-forms_read-loop-expr : goal.invariant-forms_read-loop-expr

@@ -1,7 +1,4 @@
-use Rattle.std.proofs.Common.{refl, add-one, arith}
-use Rattle.std.specs.Prelude.{None}
-use Rattle.flat_clocks.specs.Reads.{left_reads}
-use Rattle.flat_clocks.specs.Views.{names_in}
+use Rattle.flat_clocks.proofs.Common.{refl, add-one, arith, None, left_reads, names_in}
 use Rattle.flat_clocks.proofs.Firsts.{more}
 use Rattle.flat_clocks.proofs.Expressions.{name_left, bit_left, part_left, indexed_left, concatenation_left}
 use Rattle.flat_clocks.proofs.reads.+left.Goals as goal

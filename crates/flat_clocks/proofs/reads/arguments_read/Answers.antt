@@ -1,6 +1,4 @@
-use Rattle.std.proofs.Common.{refl, add-one, arith}
-use Rattle.flat_clocks.specs.Reads.{argument_reads}
-use Rattle.flat_clocks.specs.Views.{names_in}
+use Rattle.flat_clocks.proofs.Common.{refl, add-one, arith, argument_reads, names_in}
 use Rattle.flat_clocks.proofs.Firsts.{more}
 use Rattle.flat_clocks.proofs.reads.arguments_read.Goals as goal
 

@@ -1,8 +1,4 @@
-use Rattle.std.proofs.Common.{take}
-use Rattle.std.specs.List.{flat_map}
-use Rattle.elab_proc.specs.Order.{IsFirst}
-use Rattle.flat_clocks.specs.Reads.{argument_reads}
-use Rattle.flat_clocks.specs.Views.{names_in}
+use Rattle.flat_clocks.proofs.Common.{take, flat_map, IsFirst, argument_reads, names_in}
 use Rattle.flat_clocks.proofs.reads.arguments_read.Given as goal
 
 abbrev pub invariant-loop-argument : goal.invariant-loop-argument

@@ -1,5 +1,4 @@
-use Rattle.flat_clocks.specs.Reads.{expr_reads}
-use Rattle.flat_clocks.specs.Views.{names_in}
+use Rattle.flat_clocks.proofs.Common.{expr_reads, names_in}
 use Rattle.flat_clocks.proofs.Firsts.{moved}
 use Rattle.flat_clocks.proofs.reads.assignment_read.Goals as goal
 

@@ -1,17 +1,9 @@
-use Rattle.std.proofs.Common.{refl, subst, add-one, arith}
-use Rattle.std.proofs.lemmas.Result.{IfOk-weaker}
-use Rattle.std.specs.List.{flat_map}
-use Rattle.std.specs.Prelude.{None}
-use Rattle.vlog_syntax.specs.declared.stmt.CaseItem.{CaseItem}
-use Rattle.vlog_syntax.specs.declared.stmt.Stmt.{Stmt}
-use Rattle.vlog_meaning.specs.Scopes.{names_of}
-use Rattle.elab_proc.specs.Order.{IsFirst}
-use Rattle.flat_clocks.specs.Clocks.{clock_names}
-use Rattle.flat_clocks.specs.Reads.{ClockNames, expr_reads, turn_reads, stmt_reads, item_reads}
-use Rattle.flat_clocks.specs.Views.{clocks_in, names_in}
+use Rattle.flat_clocks.proofs.Common.{refl, subst, add-one, arith, IfOk-weaker, flat_map, None, CaseItem, Stmt, names_of, IsFirst, clock_names, ClockNames, expr_reads, turn_reads, stmt_reads}
+use Rattle.flat_clocks.proofs.Common.{item_reads, clocks_in, names_in}
 use Rattle.flat_clocks.proofs.Firsts.{same, moved, more}
 use Rattle.flat_clocks.proofs.StatementReadings.{item_is}
-use Rattle.flat_clocks.proofs.StatementFirsts.{null_first, block_first, choice_first, only_first, case_first, loop_first, while_first, repeat_first, forever_first, waiting_first, delayed_first, task_first, blocking_first, nonblocking_first}
+use Rattle.flat_clocks.proofs.StatementFirsts.{null_first, block_first, choice_first, only_first, case_first, loop_first, while_first, repeat_first, forever_first, waiting_first, delayed_first}
+use Rattle.flat_clocks.proofs.StatementFirsts.{task_first, blocking_first, nonblocking_first}
 use Rattle.flat_clocks.proofs.statements.+walk.Goals as goal
 
 pub stmt_read-returns-in-SeqBlock : goal.stmt_read-returns-in-SeqBlock

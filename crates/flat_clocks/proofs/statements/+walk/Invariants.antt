@@ -1,10 +1,4 @@
-use Rattle.std.proofs.Common.{◌+◌, ◌*◌, take}
-use Rattle.std.specs.List.{flat_map}
-use Rattle.vlog_syntax.specs.declared.stmt.CaseItem.{CaseItem}
-use Rattle.vlog_syntax.specs.declared.stmt.Stmt.{Stmt}
-use Rattle.elab_proc.specs.Order.{IsFirst}
-use Rattle.flat_clocks.specs.Reads.{stmt_reads, item_reads}
-use Rattle.flat_clocks.specs.Views.{names_in}
+use Rattle.flat_clocks.proofs.Common.{◌+◌, ◌*◌, take, flat_map, CaseItem, Stmt, IsFirst, stmt_reads, item_reads, names_in}
 use Rattle.flat_clocks.proofs.statements.+walk.Given as goal
 
 abbrev pub decreases-stmt_read : goal.decreases-stmt_read

@@ -1,5 +1,4 @@
-use Rattle.std.proofs.Common.{◌≡◌, ◌++◌, drop, map}
-use Rattle.flat_instances.specs.Gifts.{all_names, item_names}
+use Rattle.flat_instances.proofs.Common.{◌≡◌, ◌++◌, drop, map, all_names, item_names}
 use Rattle.flat_instances.proofs.giving.+items.Given as goal
 
 abbrev pub invariant-add_items-loop-item : goal.invariant-add_items-loop-item

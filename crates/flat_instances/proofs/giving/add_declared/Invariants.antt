@@ -1,5 +1,4 @@
-use Rattle.std.proofs.Common.{◌≡◌, ◌++◌, drop, map}
-use Rattle.flat_instances.specs.Gifts.{name_of}
+use Rattle.flat_instances.proofs.Common.{◌≡◌, ◌++◌, drop, map, name_of}
 use Rattle.flat_instances.proofs.giving.add_declared.Given as goal
 
 abbrev pub invariant-loop-assignment : goal.invariant-loop-assignment

@@ -1,5 +1,4 @@
-use Rattle.std.proofs.Common.{◌≡◌, ◌++◌, drop}
-use Rattle.flat_instances.specs.Gifts.{head_names}
+use Rattle.flat_instances.proofs.Common.{◌≡◌, ◌++◌, drop, head_names}
 use Rattle.flat_instances.proofs.giving.add_head.Given as goal
 
 abbrev pub invariant-loop-declaration : goal.invariant-loop-declaration

@@ -1,5 +1,4 @@
-use Rattle.std.proofs.Common.{◌≡◌, drop}
-use Rattle.flat_instances.specs.Gifts.{first_of}
+use Rattle.flat_instances.proofs.Common.{◌≡◌, drop, first_of}
 use Rattle.flat_instances.proofs.giving.first_refused.Given as goal
 
 abbrev pub invariant-loop-error : goal.invariant-loop-error

@@ -1,5 +1,4 @@
-use Rattle.std.proofs.Common.{◌≡◌, drop}
-use Rattle.flat_instances.specs.Gifts.{first_of, value_faults}
+use Rattle.flat_instances.proofs.Common.{◌≡◌, drop, first_of, value_faults}
 use Rattle.flat_instances.proofs.giving.first_value.Given as goal
 
 abbrev pub invariant-loop-step : goal.invariant-loop-step

@@ -1,6 +1,4 @@
-use Rattle.std.proofs.Common.{◌≡◌, [], drop}
-use Rattle.flat_instances.specs.Gifts.{with_gift, named_gifts}
-use Rattle.flat_instances.specs.Views.{gift_in}
+use Rattle.flat_instances.proofs.Common.{◌≡◌, [], drop, with_gift, named_gifts, gift_in}
 use Rattle.flat_instances.proofs.giving.named.Given as goal
 
 abbrev pub invariant-loop-connection : goal.invariant-loop-connection

@@ -1,6 +1,4 @@
-use Rattle.std.proofs.Common.{◌≡◌, ◌++◌, drop}
-use Rattle.flat_scopes.specs.Views.{opened_of}
-use Rattle.flat_instances.specs.Wires.{unwired}
+use Rattle.flat_instances.proofs.Common.{◌≡◌, ◌++◌, drop, opened_of, unwired}
 use Rattle.flat_instances.proofs.joint.add_unwired.Given as goal
 
 abbrev pub invariant-loop-port : goal.invariant-loop-port

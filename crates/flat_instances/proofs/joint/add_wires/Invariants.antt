@@ -1,6 +1,4 @@
-use Rattle.std.proofs.Common.{◌≡◌, ◌++◌, drop}
-use Rattle.flat_scopes.specs.Views.{opened_of}
-use Rattle.flat_instances.specs.Wires.{wired}
+use Rattle.flat_instances.proofs.Common.{◌≡◌, ◌++◌, drop, opened_of, wired}
 use Rattle.flat_instances.proofs.joint.add_wires.Given as goal
 
 abbrev pub invariant-loop-wire : goal.invariant-loop-wire

@@ -1,5 +1,4 @@
-use Rattle.std.proofs.Common.{◌≡◌, map, drop}
-use Rattle.flat_instances.specs.Wires.{all_of, is_left}
+use Rattle.flat_instances.proofs.Common.{◌≡◌, map, drop, all_of, is_left}
 use Rattle.flat_instances.proofs.left.+form.Given as goal
 
 abbrev pub invariant-all_left-loop-part : goal.invariant-all_left-loop-part

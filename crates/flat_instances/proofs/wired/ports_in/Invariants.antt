@@ -1,5 +1,4 @@
-use Rattle.std.proofs.Common.{◌≡◌, ◌++◌, drop}
-use Rattle.flat_instances.specs.Wires.{ports_in}
+use Rattle.flat_instances.proofs.Common.{◌≡◌, ◌++◌, drop, ports_in}
 use Rattle.flat_instances.proofs.wired.ports_in.Given as goal
 
 abbrev pub invariant-loop-wire : goal.invariant-loop-wire

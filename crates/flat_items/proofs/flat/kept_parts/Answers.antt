@@ -1,8 +1,4 @@
-use Rattle.std.proofs.Common.{List, ap, ◌∙◌}
-use Rattle.vlog_meaning.specs.Scopes.{names_of}
-use Rattle.flat_scopes.specs.declared.opening.Step.{Step}
-use Rattle.flat_scopes.specs.Views.{opened_of}
-use Rattle.flat_items.specs.Flattened.{kept_names}
+use Rattle.flat_items.proofs.Common.{List, ap, ◌∙◌, names_of, Step, opened_of, kept_names}
 use Rattle.flat_items.proofs.flat.kept_parts.Goals as goal
 
 pub returns-clause-names : goal.returns-clause-names

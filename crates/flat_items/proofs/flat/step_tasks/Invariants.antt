@@ -1,5 +1,4 @@
-use Rattle.std.proofs.Common.{◌≡◌}
-use Rattle.flat_items.specs.Flattened.{tasks_of}
+use Rattle.flat_items.proofs.Common.{◌≡◌, tasks_of}
 use Rattle.flat_items.proofs.flat.step_tasks.Given as goal
 
 abbrev pub invariant-loop-step : goal.invariant-loop-step

@@ -1,7 +1,4 @@
-use Rattle.std.proofs.Common.{ap, ◌∙◌}
-use Rattle.std.proofs.lemmas.Result.{IfOk-weaker}
-use Rattle.vlog_syntax.specs.declared.identifier.Identifier.{Identifier}
-use Rattle.flat_scopes.specs.Owns.{what_of}
+use Rattle.flat_items.proofs.Common.{ap, ◌∙◌, IfOk-weaker, Identifier, what_of}
 use Rattle.flat_items.proofs.Naming.{named_by, unnamed_by}
 use Rattle.flat_items.proofs.names.block_name.Goals as goal
 

@@ -1,5 +1,4 @@
-use Rattle.std.proofs.Common.{string_bytes}
-use Rattle.flat_scopes.specs.Owns.{what_of}
+use Rattle.flat_items.proofs.Common.{string_bytes, what_of}
 use Rattle.flat_items.proofs.Naming.{name_found, name_taken}
 use Rattle.flat_items.proofs.names.free_name.Goals as goal
 

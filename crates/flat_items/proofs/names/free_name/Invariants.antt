@@ -1,6 +1,4 @@
-use Rattle.std.proofs.Common.{List, ℕ, codes, string_bytes}
-use Rattle.flat_scopes.specs.Owns.{what_of}
-use Rattle.flat_items.specs.Flattened.{IsFree}
+use Rattle.flat_items.proofs.Common.{List, ℕ, codes, string_bytes, what_of, IsFree}
 use Rattle.flat_items.proofs.names.free_name.Given as goal
 
 abbrev pub invariant-zeros : goal.invariant-zeros

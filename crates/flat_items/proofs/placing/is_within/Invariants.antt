@@ -1,5 +1,4 @@
-use Rattle.std.proofs.Common.{◌≡◌, drop}
-use Rattle.flat_items.specs.Flattened.{is_within}
+use Rattle.flat_items.proofs.Common.{◌≡◌, drop, is_within}
 use Rattle.flat_items.proofs.placing.is_within.Given as goal
 
 abbrev pub invariant-loop-one : goal.invariant-loop-one

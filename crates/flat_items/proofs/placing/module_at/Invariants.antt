@@ -1,5 +1,4 @@
-use Rattle.std.proofs.Common.{◌≡◌, drop}
-use Rattle.flat_items.specs.Flattened.{module_at, module_from}
+use Rattle.flat_items.proofs.Common.{◌≡◌, drop, module_at, module_from}
 use Rattle.flat_items.proofs.placing.module_at.Given as goal
 
 abbrev pub invariant-loop-number : goal.invariant-loop-number

@@ -1,7 +1,4 @@
-use Rattle.std.proofs.Common.{ap}
-use Rattle.vlog_meaning.specs.Scopes.{names_of}
-use Rattle.flat_scopes.specs.Views.{opened_of}
-use Rattle.flat_instances.specs.Places.{place_of}
+use Rattle.flat_items.proofs.Common.{ap, names_of, opened_of, place_of}
 use Rattle.flat_items.proofs.Starting.{turn_starts}
 use Rattle.flat_items.proofs.turn.turn_scope.Goals as goal
 

@@ -1,9 +1,6 @@
-use Rattle.std.proofs.Common.{◌≡◌, ◌∷◌, [], ap, length, refl, sym, rules}
+use Rattle.flat_items.proofs.Common.{◌≡◌, ◌∷◌, [], ap, length, refl, sym, rules, names_of, opened_of, flat_of}
 use Rattle.std.proofs.lemmas.Bool.{ltb-true}
 use Rattle.std.proofs.lemmas.Option.{slice_get_read}
-use Rattle.vlog_meaning.specs.Scopes.{names_of}
-use Rattle.flat_scopes.specs.Views.{opened_of}
-use Rattle.flat_items.specs.Views.{flat_of}
 use Rattle.flat_items.proofs.Tops.{top_entered}
 use Rattle.flat_items.proofs.walk.flattened.Goals as goal
 

@@ -1,4 +1,4 @@
-use Rattle.std.proofs.Common.{◌≡◌, ◌++◌, vec_len}
+use Rattle.flat_items.proofs.Common.{◌≡◌, ◌++◌, vec_len}
 use Rattle.flat_items.proofs.walk.put.Given as goal
 
 abbrev pub invariant-loop-task : goal.invariant-loop-task

@@ -1,4 +1,4 @@
-use Rattle.std.proofs.lemmas.Result.{IfOk-weaker}
+use Rattle.flat_scopes.proofs.Common.{IfOk-weaker}
 use Rattle.flat_scopes.proofs.Labels.{both_merged}
 use Rattle.flat_scopes.proofs.items.+add_labels.Goals as goal
 

@@ -1,4 +1,4 @@
-use Rattle.std.proofs.Common.{refl}
+use Rattle.flat_scopes.proofs.Common.{refl}
 use Rattle.flat_scopes.proofs.laws.ranges_of_examples.Goals as goal
 
 pub returns-clause-accepted : goal.returns-clause-accepted

@@ -1,4 +1,4 @@
-use Rattle.std.proofs.Common.{refl}
+use Rattle.flat_scopes.proofs.Common.{refl}
 use Rattle.flat_scopes.proofs.laws.scopes_of_examples.Goals as goal
 
 pub returns-clause-one_port : goal.returns-clause-one_port

@@ -1,4 +1,4 @@
-use Rattle.std.proofs.Common.{◌≡◌, drop}
+use Rattle.flat_scopes.proofs.Common.{◌≡◌, drop}
 use Rattle.flat_scopes.specs.Openings.{is_among}
 use Rattle.flat_scopes.proofs.opening.is_among.Given as goal
 

@@ -1,5 +1,4 @@
-use Rattle.vlog_meaning.specs.Scopes.{names_of}
-use Rattle.vlog_meaning.specs.Senses.{sense}
+use Rattle.flat_scopes.proofs.Common.{names_of, sense}
 use Rattle.flat_scopes.proofs.Whole.{none-refused}
 use Rattle.flat_scopes.proofs.parameter.parameter_decl.Goals as goal
 

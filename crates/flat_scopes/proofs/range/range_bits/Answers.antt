@@ -1,9 +1,5 @@
-use Rattle.std.proofs.Common.{◌≡◌, ap, sym, ◌∙◌}
-use Rattle.vlog_syntax.specs.declared.expr.Expr.{Expr}
-use Rattle.vlog_meaning.specs.Answers.{least}
+use Rattle.flat_scopes.proofs.Common.{◌≡◌, ap, sym, ◌∙◌, Expr, least, names_of, constant_faults, constant_integer, sense}
 use Rattle.vlog_meaning.specs.Integers.{bound_integer}
-use Rattle.vlog_meaning.specs.Scopes.{names_of}
-use Rattle.vlog_meaning.specs.Senses.{constant_faults, constant_integer, sense}
 use Rattle.flat_scopes.specs.Ranges.{bits_between, bits_of_bounds, bits_of_range}
 use Rattle.flat_scopes.proofs.Whole.{bounds-given}
 use Rattle.flat_scopes.proofs.range.range_bits.Goals as goal

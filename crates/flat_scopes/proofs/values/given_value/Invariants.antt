@@ -1,5 +1,4 @@
-use Rattle.std.proofs.Common.{◌≡◌, drop}
-use Rattle.flat_scopes.specs.Valued.{given_value}
+use Rattle.flat_scopes.proofs.Common.{◌≡◌, drop, given_value}
 use Rattle.flat_scopes.proofs.values.given_value.Given as goal
 
 abbrev pub invariant-loop-one : goal.invariant-loop-one

@@ -1,5 +1,4 @@
-use Rattle.std.proofs.Common.{◌≡◌, ◌++◌, drop, map}
-use Rattle.flat_scopes.specs.Wires.{name_in}
+use Rattle.flat_scopes.proofs.Common.{◌≡◌, ◌++◌, drop, map, name_in}
 use Rattle.flat_scopes.proofs.wire.add_declared.Given as goal
 
 abbrev pub invariant-loop-name : goal.invariant-loop-name

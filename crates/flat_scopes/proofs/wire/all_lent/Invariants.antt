@@ -1,4 +1,4 @@
-use Rattle.std.proofs.Common.{◌≡◌, ◌++◌, drop}
+use Rattle.flat_scopes.proofs.Common.{◌≡◌, ◌++◌, drop}
 use Rattle.flat_scopes.proofs.wire.all_lent.Given as goal
 
 abbrev pub invariant-loop-name : goal.invariant-loop-name

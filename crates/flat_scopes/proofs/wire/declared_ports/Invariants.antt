@@ -1,5 +1,4 @@
-use Rattle.std.proofs.Common.{◌≡◌, ◌++◌, drop}
-use Rattle.flat_scopes.specs.Wires.{declared_ports}
+use Rattle.flat_scopes.proofs.Common.{◌≡◌, ◌++◌, drop, declared_ports}
 use Rattle.flat_scopes.proofs.wire.declared_ports.Given as goal
 
 abbrev pub invariant-loop-declaration : goal.invariant-loop-declaration

@@ -1,5 +1,4 @@
-use Rattle.std.proofs.Common.{◌≡◌, ◌++◌, [], drop}
-use Rattle.flat_scopes.specs.Wires.{named_wires}
+use Rattle.flat_scopes.proofs.Common.{◌≡◌, ◌++◌, [], drop, named_wires}
 use Rattle.flat_scopes.proofs.wire.named_wires.Given as goal
 
 abbrev pub invariant-loop-connection : goal.invariant-loop-connection

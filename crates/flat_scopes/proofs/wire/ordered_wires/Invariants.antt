@@ -1,5 +1,4 @@
-use Rattle.std.proofs.Common.{◌≡◌, ◌++◌, drop}
-use Rattle.flat_scopes.specs.Wires.{ordered_wires}
+use Rattle.flat_scopes.proofs.Common.{◌≡◌, ◌++◌, drop, ordered_wires}
 use Rattle.flat_scopes.proofs.wire.ordered_wires.Given as goal
 
 abbrev pub invariant-loop-place : goal.invariant-loop-place

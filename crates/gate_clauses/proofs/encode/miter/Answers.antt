@@ -1,4 +1,4 @@
-use Rattle.std.proofs.Common.{suc, arith}
+use Rattle.gate_clauses.proofs.Common.{suc, arith}
 use Rattle.gate_clauses.proofs.Models.{models-are}
 use Rattle.gate_clauses.proofs.Pushing.{clauses-few}
 use Rattle.gate_clauses.proofs.Settling.{is-miter}

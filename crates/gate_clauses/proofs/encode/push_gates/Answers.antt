@@ -1,6 +1,4 @@
-use Rattle.std.proofs.Common.{◌≡◌, ◌+◌, ◌<◌, suc, pos, take, length, get_or, ap, arith, ◌∙◌, w32, rules, FitsSigned}
-use Rattle.std.proofs.lemmas.Int.{to_z-of_z}
-use Rattle.std.proofs.lemmas.List.{length-take}
+use Rattle.gate_clauses.proofs.Common.{◌≡◌, ◌+◌, ◌<◌, suc, pos, take, length, get_or, ap, arith, ◌∙◌, w32, rules, FitsSigned, to_z-of_z, length-take}
 use Rattle.std.proofs.lemmas.Option.{get_or_from_slice_get}
 use Rattle.gate_clauses.proofs.Pushing.{clauses-few, variable-pushed, ordered-at, reads-more}
 use Rattle.gate_clauses.proofs.encode.push_gates.Goals as goal

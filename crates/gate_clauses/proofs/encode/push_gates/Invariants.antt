@@ -1,5 +1,4 @@
-use Rattle.std.proofs.Common.{◌≡◌, suc, take}
-use Rattle.gate_clauses.specs.Encoding.{clauses_from}
+use Rattle.gate_clauses.proofs.Common.{◌≡◌, suc, take, clauses_from}
 use Rattle.gate_clauses.proofs.encode.push_gates.Given as goal
 
 abbrev pub invariant-loop-number : goal.invariant-loop-number

@@ -1,5 +1,4 @@
-use Rattle.std.proofs.Common.{rules, ◌∙◌, ap, neg_ℤ, w32, FitsSigned}
-use Rattle.std.proofs.lemmas.Int.{to_z-of_z}
+use Rattle.gate_clauses.proofs.Common.{rules, ◌∙◌, ap, neg_ℤ, w32, FitsSigned, to_z-of_z}
 use Rattle.gate_clauses.proofs.Pushing.{mux-pushed}
 use Rattle.gate_clauses.proofs.encode.push_mux.Goals as goal
 

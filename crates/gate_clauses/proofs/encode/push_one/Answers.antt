@@ -1,9 +1,5 @@
-use Rattle.std.proofs.Common.{◌≡◌, ◌+◌, ◌<◌, ◌++◌, ◌∷◌, [], ℕ, ℤ, List, take, get_or, length, Bool, false, sym, arith, ◌∙◌, rules, w32, FitsSigned}
-use Rattle.std.proofs.lemmas.Int.{to_z-of_z}
-use Rattle.std.proofs.lemmas.List.{length-take, append-nil}
-use Rattle.gate_list.specs.declared.literal.GateLit.{GateLit}
-use Rattle.gate_list.specs.declared.literal.GateLit.TheVariants.{Fixed, Var}
-use Rattle.gate_clauses.specs.Encoding.{open_lits}
+use Rattle.gate_clauses.proofs.Common.{◌≡◌, ◌+◌, ◌<◌, ◌++◌, ◌∷◌, [], ℕ, ℤ, List, take, get_or, length, Bool, false, sym, arith, ◌∙◌, rules, w32, FitsSigned, to_z-of_z, length-take, append-nil}
+use Rattle.gate_clauses.proofs.Common.{GateLit, Fixed, Var, open_lits}
 use Rattle.gate_clauses.proofs.Pushing.{open-more, open-few}
 use Rattle.gate_clauses.proofs.encode.push_one.Goals as goal
 use Rattle.gate_clauses.proofs.encode.push_one.Goals.{in-Var+in_ok-push, in_default}

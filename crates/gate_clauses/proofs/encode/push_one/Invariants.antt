@@ -1,5 +1,4 @@
-use Rattle.std.proofs.Common.{◌≡◌, take}
-use Rattle.gate_clauses.specs.Encoding.{open_lits}
+use Rattle.gate_clauses.proofs.Common.{◌≡◌, take, open_lits}
 use Rattle.gate_clauses.proofs.encode.push_one.Given as goal
 
 abbrev pub invariant-loop-literal : goal.invariant-loop-literal

@@ -1,9 +1,4 @@
-use Rattle.std.proofs.Common.{length, false, sym, subst}
-use Rattle.std.specs.List.{fold}
-use Rattle.gate_list.specs.declared.literal.GateLit.TheVariants.{Fixed}
-use Rattle.gate_list.specs.Gates.{lit_value}
-use Rattle.gate_list.specs.Folding.{Made}
-use Rattle.gate_words.specs.Bits.{AddsLit, operation_value, lit_values}
+use Rattle.gate_words.proofs.Common.{length, false, sym, subst, fold, Fixed, lit_value, Made, AddsLit, operation_value, lit_values}
 use Rattle.gate_words.proofs.RowLemmas.{chain-step, chain-done, chain-adds}
 use Rattle.gate_words.proofs.rows.chain.Goals as goal
 

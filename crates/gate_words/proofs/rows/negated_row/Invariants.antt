@@ -1,5 +1,4 @@
-use Rattle.std.proofs.Common.{◌≡◌, map, take}
-use Rattle.gate_list.specs.Folding.{negated}
+use Rattle.gate_words.proofs.Common.{◌≡◌, map, take, negated}
 use Rattle.gate_words.proofs.rows.negated_row.Given as goal
 
 abbrev pub invariant-loop-bit : goal.invariant-loop-bit

@@ -1,7 +1,4 @@
-use Rattle.std.proofs.Common.{length, get_or, false, sym, subst, arith, ◌<◌}
-use Rattle.gate_list.specs.declared.literal.GateLit.TheVariants.{Fixed}
-use Rattle.gate_words.specs.Rows.{MadeRow}
-use Rattle.gate_words.specs.Bits.{AddsBits}
+use Rattle.gate_words.proofs.Common.{length, get_or, false, sym, subst, arith, ◌<◌, Fixed, MadeRow, AddsBits}
 use Rattle.gate_words.proofs.Growing.{lit-later}
 use Rattle.gate_words.proofs.RowLemmas.{RowIs, row-begun, row-step, row-done, row-adds}
 use Rattle.gate_words.proofs.rows.row.Goals as goal

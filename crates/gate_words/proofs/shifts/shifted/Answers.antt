@@ -1,11 +1,6 @@
-use Rattle.std.proofs.Common.{◌≡◌, ◌+◌, ◌-◌, ◌*◌, ◌≤◌, List, length, take, drop, ap, sym, ◌∙◌, ◌⊎◌, inl, inr, arith}
-use Rattle.std.proofs.lemmas.List.{take_rest, length-drop}
+use Rattle.gate_words.proofs.Common.{◌≡◌, ◌+◌, ◌-◌, ◌*◌, ◌≤◌, List, length, take, drop, ap, sym, ◌∙◌, ◌⊎◌, inl, inr, arith, take_rest, length-drop, number, GateLit, lit_value, AddsBits, lit_values}
+use Rattle.gate_words.proofs.Common.{moved, past_end, shift_of}
 use Rattle.std.proofs.lemmas.Result.{IfOk-weaker}
-use Rattle.netlist_core.specs.Numbers.{number}
-use Rattle.gate_list.specs.declared.literal.GateLit.{GateLit}
-use Rattle.gate_list.specs.Gates.{lit_value}
-use Rattle.gate_words.specs.Bits.{AddsBits, lit_values}
-use Rattle.gate_words.specs.Shifts.{moved, past_end, shift_of}
 use Rattle.gate_words.proofs.Growing.{grown-length, row-told}
 use Rattle.gate_words.proofs.ShiftLemmas.{shift-done, shifted-adds}
 use Rattle.gate_words.proofs.shifts.shifted.Goals as goal

@@ -1,4 +1,4 @@
-use Rattle.std.proofs.Common.{◌-◌, length}
+use Rattle.gate_words.proofs.Common.{◌-◌, length}
 use Rattle.gate_words.proofs.ShiftLemmas.{ShiftAhead}
 use Rattle.gate_words.proofs.shifts.shifted.Given as goal
 

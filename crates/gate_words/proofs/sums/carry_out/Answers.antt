@@ -1,5 +1,4 @@
-use Rattle.std.proofs.Common.{◌<◌, length, false, arith}
-use Rattle.gate_list.specs.declared.literal.GateLit.TheVariants.{Fixed}
+use Rattle.gate_words.proofs.Common.{◌<◌, length, false, arith, Fixed}
 use Rattle.gate_words.proofs.Adders.{carry-step}
 use Rattle.gate_words.proofs.sums.carry_out.Goals as goal
 

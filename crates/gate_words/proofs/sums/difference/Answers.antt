@@ -1,12 +1,5 @@
-use Rattle.std.proofs.Common.{◌≡◌, ◌+◌, ◌-◌, ◌*◌, ◌^◌, List, length, true, subst, sym, ap, ◌∙◌}
+use Rattle.gate_words.proofs.Common.{◌≡◌, ◌+◌, ◌-◌, ◌*◌, ◌^◌, List, length, true, subst, sym, ap, ◌∙◌, number, GateLit, Fixed, count, IsLit, All, AddsBits, lit_values, sum_of, difference_of}
 use Rattle.std.proofs.lemmas.Result.{IfOk-weaker}
-use Rattle.netlist_core.specs.Numbers.{number}
-use Rattle.gate_list.specs.declared.literal.GateLit.{GateLit}
-use Rattle.gate_list.specs.declared.literal.GateLit.TheVariants.{Fixed}
-use Rattle.gate_list.specs.Gates.{count, IsLit}
-use Rattle.std.specs.List.{All}
-use Rattle.gate_words.specs.Bits.{AddsBits, lit_values}
-use Rattle.gate_words.specs.Sums.{sum_of, difference_of}
 use Rattle.gate_words.proofs.Growing.{row-told}
 use Rattle.gate_words.proofs.Adders.{NumberIs, lits-negated, difference-number}
 use Rattle.gate_words.proofs.sums.difference.Goals as goal

@@ -1,15 +1,6 @@
-use Rattle.std.proofs.Common.{◌≡◌, ◌*◌, List, length, map, true, nat_eq, subst, sym, ap, ◌∙◌}
+use Rattle.gate_words.proofs.Common.{◌≡◌, ◌*◌, List, length, map, true, subst, sym, ap, ◌∙◌, number, GateLit, Fixed, count, IsLit, negated, All, And, MadeRow, chain_of, AddsLit, lit_values, equal_of}
+use Rattle.std.proofs.Common.{nat_eq}
 use Rattle.std.proofs.lemmas.Result.{IfOk-weaker}
-use Rattle.netlist_core.specs.Numbers.{number}
-use Rattle.gate_list.specs.declared.literal.GateLit.{GateLit}
-use Rattle.gate_list.specs.declared.literal.GateLit.TheVariants.{Fixed}
-use Rattle.gate_list.specs.Gates.{count, IsLit}
-use Rattle.gate_list.specs.Folding.{negated}
-use Rattle.std.specs.List.{All}
-use Rattle.gate_words.specs.declared.operation.Operation.TheVariants.{And}
-use Rattle.gate_words.specs.Rows.{MadeRow, chain_of}
-use Rattle.gate_words.specs.Bits.{AddsLit, lit_values}
-use Rattle.gate_words.specs.Sums.{equal_of}
 use Rattle.gate_words.proofs.Growing.{lit-told}
 use Rattle.gate_words.proofs.Adders.{lits-negated, equal-adds}
 use Rattle.gate_words.proofs.sums.is_equal.Goals as goal

@@ -1,11 +1,4 @@
-use Rattle.std.proofs.Common.{◌≡◌, List, length, map, true, subst, sym, ap, ◌∙◌, arith}
-use Rattle.std.specs.List.{All}
-use Rattle.std.proofs.lemmas.List.{length-map}
-use Rattle.gate_list.specs.declared.literal.GateLit.{GateLit}
-use Rattle.gate_list.specs.declared.literal.GateLit.TheVariants.{Fixed}
-use Rattle.gate_list.specs.Gates.{count, IsLit}
-use Rattle.gate_list.specs.Folding.{Made, negated}
-use Rattle.gate_words.specs.Sums.{ordered, carry_out, less_of}
+use Rattle.gate_words.proofs.Common.{◌≡◌, List, length, map, true, subst, sym, ap, ◌∙◌, arith, All, length-map, GateLit, Fixed, count, IsLit, Made, negated, ordered, carry_out, less_of}
 use Rattle.gate_words.proofs.Growing.{lit-more, lit-told}
 use Rattle.gate_words.proofs.Adders.{lits-negated, lits-ordered, length-ordered, less-carry, less-adds}
 use Rattle.gate_words.proofs.sums.is_less.Goals as goal

@@ -1,7 +1,4 @@
-use Rattle.std.proofs.Common.{◌≡◌, [], ◌∷◌, ◌++◌, ◌∙◌, ap, sym, Bool, length, arith}
-use Rattle.gate_list.specs.declared.literal.GateLit.{GateLit}
-use Rattle.gate_list.specs.Folding.{negated}
-use Rattle.gate_words.specs.Sums.{ordered, top_negated}
+use Rattle.gate_words.proofs.Common.{◌≡◌, [], ◌∷◌, ◌++◌, ◌∙◌, ap, sym, Bool, length, arith, GateLit, negated, ordered, top_negated}
 use Rattle.gate_words.proofs.Adders.{top-pushed, top-empty}
 use Rattle.gate_words.proofs.sums.ordered.Goals as goal
 use Rattle.gate_words.proofs.sums.ordered.Goals.{then-signed+in-Some+in_ok-push, then-signed+in_default, else-signed}

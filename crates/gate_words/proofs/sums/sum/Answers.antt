@@ -1,6 +1,4 @@
-use Rattle.std.proofs.Common.{ℕ, ◌≡◌, ◌-◌, ◌<◌, length, get_or, false, arith, ap, ◌∙◌}
-use Rattle.gate_list.specs.declared.literal.GateLit.TheVariants.{Fixed}
-use Rattle.gate_words.specs.Sums.{sum_of, last_sum}
+use Rattle.gate_words.proofs.Common.{ℕ, ◌≡◌, ◌-◌, ◌<◌, length, get_or, false, arith, ap, ◌∙◌, Fixed, sum_of, last_sum}
 use Rattle.gate_words.proofs.Numbers.{not-zero}
 use Rattle.gate_words.proofs.Growing.{lit-later, row-told}
 use Rattle.gate_words.proofs.Adders.{sum-step, sum-done, sum-number}

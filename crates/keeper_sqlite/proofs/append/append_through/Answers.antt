@@ -1,8 +1,4 @@
-use Rattle.std.proofs.Common.{true, Some, OnOk, OnErr, sym, subst}
-use Rattle.mcy_keeper.specs.declared.book.Book.{Book}
-use Rattle.mcy_keeper.specs.Books.{IsNext, with_entry, Keeps, LeavesEither}
-use Rattle.keeper_sqlite.specs.Rows.{FitsTable}
-use Rattle.keeper_sqlite.specs.Stands.{Holds, Leaves}
+use Rattle.keeper_sqlite.proofs.Common.{true, Some, OnOk, OnErr, sym, subst, Book, IsNext, with_entry, Keeps, LeavesEither, FitsTable, Holds, Leaves}
 use Rattle.keeper_sqlite.proofs.Keeping.{appended, either_left}
 use Rattle.keeper_sqlite.proofs.append.append_through.Goals as goal
 

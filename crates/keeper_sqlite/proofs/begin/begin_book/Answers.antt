@@ -1,7 +1,4 @@
-use Rattle.std.proofs.Common.{◌≡◌, inl, inr, arith, ap, Err, ◌∙◌}
-use Rattle.sqlite.specs.Held.{state}
-use Rattle.sqlite.specs.State.{HasCleanDisk}
-use Rattle.keeper_sqlite.specs.declared.refusal.Refusal.TheVariants.{Database}
+use Rattle.keeper_sqlite.proofs.Common.{◌≡◌, inl, inr, arith, ap, Err, ◌∙◌, state, HasCleanDisk, Database}
 use Rattle.keeper_sqlite.proofs.begin.begin_book.Goals as goal
 
 pub returns-in-Err-clause-fault : goal.returns-in-Err-clause-fault

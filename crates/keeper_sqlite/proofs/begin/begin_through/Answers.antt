@@ -1,9 +1,4 @@
-use Rattle.std.proofs.Common.{true, Some, OnOk, OnErr, sym, subst}
-use Rattle.mcy_keeper.specs.declared.book.Book.{Book}
-use Rattle.mcy_keeper.specs.Books.{IsBlank, begun, Keeps, LeavesEither}
-use Rattle.keeper_sqlite.specs.declared.read.JournalTable.{JournalTable}
-use Rattle.keeper_sqlite.specs.Rows.{table_of}
-use Rattle.keeper_sqlite.specs.Stands.{Holds, Leaves}
+use Rattle.keeper_sqlite.proofs.Common.{true, Some, OnOk, OnErr, sym, subst, Book, IsBlank, begun, Keeps, LeavesEither, JournalTable, table_of, Holds, Leaves}
 use Rattle.keeper_sqlite.proofs.Keeping.{begun_told, begun_either}
 use Rattle.keeper_sqlite.proofs.begin.begin_through.Goals as goal
 

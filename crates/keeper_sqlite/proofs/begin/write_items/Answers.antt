@@ -1,13 +1,6 @@
-use Rattle.std.proofs.Common.{rules, arith, ◌≡◌, inl, ◌<◌, [], ◌∷◌, length, refl, sym, subst, ◌∙◌}
-use Rattle.std.proofs.lemmas.Option.{slice_get_read}
-use Rattle.sqlite.specs.Held.{state}
-use Rattle.sqlite.specs.State.{HasCleanDisk}
-use Rattle.keeper_sqlite.specs.Tables.{IsBookSchema}
-use Rattle.keeper_sqlite.specs.Rows.{item_row, shown_item, tree_of}
-use Rattle.keeper_sqlite.specs.Refusals.{refusal_of, IsRefusedInsideWith}
+use Rattle.keeper_sqlite.proofs.Common.{rules, arith, ◌≡◌, inl, ◌<◌, [], ◌∷◌, length, refl, sym, subst, ◌∙◌, slice_get_read, state, HasCleanDisk, IsBookSchema, item_row, shown_item, tree_of}
+use Rattle.keeper_sqlite.proofs.Common.{refusal_of, IsRefusedInsideWith, Database, Wrote}
 use Rattle.keeper_sqlite.specs.Unbegun.{insert_of}
-use Rattle.keeper_sqlite.specs.declared.refusal.Refusal.TheVariants.{Database}
-use Rattle.keeper_sqlite.specs.Writing.{Wrote}
 use Rattle.keeper_sqlite.proofs.Begins.{survives_on, keeps_on, wrote_next}
 use Rattle.keeper_sqlite.proofs.begin.write_items.Goals as goal
 

@@ -1,9 +1,4 @@
-use Rattle.std.proofs.Common.{◌≡◌, IsTrue, take}
-use Rattle.sqlite.specs.Held.{state}
-use Rattle.sqlite.specs.State.{HasCleanDisk, KeepsCommit, Survives}
-use Rattle.keeper_sqlite.specs.Tables.{IsBookSchema}
-use Rattle.keeper_sqlite.specs.Rows.{item_rows, tree_of}
-use Rattle.keeper_sqlite.specs.Writing.{Wrote}
+use Rattle.keeper_sqlite.proofs.Common.{◌≡◌, IsTrue, take, state, HasCleanDisk, KeepsCommit, Survives, IsBookSchema, item_rows, tree_of, Wrote}
 use Rattle.keeper_sqlite.proofs.begin.write_items.Given as goal
 
 abbrev pub invariant-loop-item : goal.invariant-loop-item

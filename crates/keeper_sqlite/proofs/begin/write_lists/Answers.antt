@@ -1,13 +1,5 @@
-use Rattle.std.proofs.Common.{rules, arith, inl, inr, IsErrOf, ◌≡◌, refl, true, sym, subst, ◌∙◌}
-use Rattle.sqlite.specs.Held.{state}
-use Rattle.sqlite.specs.Tree.{Trees}
-use Rattle.sqlite.specs.State.{HasCleanDisk, Survives}
-use Rattle.sqlite.proofs.StateLemmas.{survives_then}
-use Rattle.sqlite.proofs.Callers.{survives_begin}
-use Rattle.keeper_sqlite.specs.Tables.{IsBookSchema}
-use Rattle.keeper_sqlite.specs.declared.refusal.Refusal.TheVariants.{Database}
-use Rattle.keeper_sqlite.specs.Refusals.{refusal_of}
-use Rattle.keeper_sqlite.specs.Writing.{HasBegunBook, MayBegin, BeginsRows}
+use Rattle.keeper_sqlite.proofs.Common.{rules, arith, inl, inr, IsErrOf, ◌≡◌, refl, true, sym, subst, ◌∙◌, state, Trees, HasCleanDisk, Survives, survives_then, survives_begin, IsBookSchema, Database}
+use Rattle.keeper_sqlite.proofs.Common.{refusal_of, HasBegunBook, MayBegin, BeginsRows}
 use Rattle.keeper_sqlite.proofs.Begins.{survives_on, lists_wrote}
 use Rattle.keeper_sqlite.proofs.begin.write_lists.Goals as goal
 

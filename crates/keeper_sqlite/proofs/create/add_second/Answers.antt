@@ -1,12 +1,5 @@
-use Rattle.std.proofs.Common.{rules, arith, inl, true, not, refl, ap, subst, OnOk, ◌≡◌, ◌∙◌, IsTrue}
-use Rattle.sqlite.specs.Held.{state}
-use Rattle.sqlite.specs.Tree.{Trees}
-use Rattle.sqlite.specs.State.{HasCleanDisk, Survives}
-use Rattle.sqlite.proofs.StateLemmas.{survives_then}
-use Rattle.sqlite.proofs.Callers.{survives_begin}
-use Rattle.keeper_sqlite.specs.Tables.{IsFirstSchema}
-use Rattle.keeper_sqlite.specs.Making.{HasAddedSecond, MayMake}
-use Rattle.keeper_sqlite.specs.Unloaded.{IsNotAddedTo}
+use Rattle.keeper_sqlite.proofs.Common.{rules, arith, inl, true, not, refl, ap, subst, OnOk, ◌≡◌, ◌∙◌, IsTrue, state, Trees, HasCleanDisk, Survives, survives_then, survives_begin, IsFirstSchema}
+use Rattle.keeper_sqlite.proofs.Common.{HasAddedSecond, MayMake, IsNotAddedTo}
 use Rattle.keeper_sqlite.proofs.Seconds.{adding_refused, may_add, second_made}
 use Rattle.keeper_sqlite.proofs.Refused.{on_same}
 use Rattle.keeper_sqlite.proofs.create.add_second.Goals as goal

@@ -1,6 +1,4 @@
-use Rattle.std.proofs.Common.{[]}
-use Rattle.sqlite.specs.Held.{state}
-use Rattle.keeper_sqlite.specs.declared.statements.TheConstants.{CREATE_MUTATIONS}
+use Rattle.keeper_sqlite.proofs.Common.{[], state, CREATE_MUTATIONS}
 use Rattle.keeper_sqlite.proofs.Refused.{err_inside}
 use Rattle.keeper_sqlite.proofs.Creates.{creates_mutations}
 use Rattle.keeper_sqlite.proofs.create.create_mutations.Goals as goal

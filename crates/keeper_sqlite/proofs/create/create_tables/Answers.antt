@@ -1,10 +1,5 @@
-use Rattle.std.proofs.Common.{rules, inl, inr, refl, sym, subst, ◌≡◌, ◌∙◌, arith}
-use Rattle.sqlite.specs.Held.{state}
-use Rattle.sqlite.specs.State.{HasCleanDisk}
-use Rattle.keeper_sqlite.specs.declared.statements.TheConstants.{CREATE_META, CREATE_MUTATIONS, CREATE_JOURNAL, CREATE_SECOND}
-use Rattle.keeper_sqlite.specs.Unloaded.{IsCreateRefused}
-use Rattle.keeper_sqlite.specs.Tables.{IsFirstSchema}
-use Rattle.keeper_sqlite.specs.Creating.{schema_of_first, second_table, MakesTable}
+use Rattle.keeper_sqlite.proofs.Common.{rules, inl, inr, refl, sym, subst, ◌≡◌, ◌∙◌, arith, state, HasCleanDisk, CREATE_META, CREATE_MUTATIONS, CREATE_JOURNAL, CREATE_SECOND, IsCreateRefused}
+use Rattle.keeper_sqlite.proofs.Common.{IsFirstSchema, schema_of_first, second_table, MakesTable}
 use Rattle.keeper_sqlite.proofs.Creates.{made, after_meta, after_items, after_first, first_alone}
 use Rattle.keeper_sqlite.proofs.create.create_tables.Goals as goal
 

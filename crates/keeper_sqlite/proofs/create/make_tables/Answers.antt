@@ -1,7 +1,4 @@
-use Rattle.std.proofs.Common.{rules, arith, inl, true, refl}
-use Rattle.sqlite.specs.Held.{state}
-use Rattle.sqlite.specs.State.{HasCleanDisk}
-use Rattle.keeper_sqlite.specs.Unloaded.{AreNotMade}
+use Rattle.keeper_sqlite.proofs.Common.{rules, arith, inl, true, refl, state, HasCleanDisk, AreNotMade}
 use Rattle.keeper_sqlite.proofs.Refused.{making_refused, on_same}
 use Rattle.keeper_sqlite.proofs.create.make_tables.Goals as goal
 

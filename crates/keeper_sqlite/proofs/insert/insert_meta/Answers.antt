@@ -1,7 +1,4 @@
-use Rattle.std.proofs.Common.{rules}
-use Rattle.sqlite.specs.Held.{state}
-use Rattle.sqlite.specs.State.{ExecutesInside}
-use Rattle.keeper_sqlite.specs.Rows.{shown_item}
+use Rattle.keeper_sqlite.proofs.Common.{rules, state, ExecutesInside, shown_item}
 use Rattle.keeper_sqlite.proofs.Texts.{insert_meta_text}
 use Rattle.keeper_sqlite.proofs.Begins.{wrote_meta}
 use Rattle.keeper_sqlite.proofs.Refused.{err_inside}

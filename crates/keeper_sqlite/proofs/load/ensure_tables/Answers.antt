@@ -1,9 +1,4 @@
-use Rattle.std.proofs.Common.{rules, ◌≡◌, inl, inr, IsTrue}
-use Rattle.sqlite.specs.Held.{state}
-use Rattle.sqlite.proofs.StateLemmas.{survives_weaker}
-use Rattle.keeper_sqlite.specs.declared.refusal.Refusal.TheVariants.{Database}
-use Rattle.keeper_sqlite.specs.Refusals.{refusal_of}
-use Rattle.keeper_sqlite.specs.Tables.{IsFirstSchema, no_schema}
+use Rattle.keeper_sqlite.proofs.Common.{rules, ◌≡◌, inl, inr, IsTrue, state, survives_weaker, Database, refusal_of, IsFirstSchema, no_schema}
 use Rattle.keeper_sqlite.proofs.Loads.{may_make, ready_made, ready_with_second}
 use Rattle.keeper_sqlite.proofs.load.ensure_tables.Goals as goal
 

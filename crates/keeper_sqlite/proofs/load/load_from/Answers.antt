@@ -1,9 +1,4 @@
-use Rattle.std.proofs.Common.{rules, ◌≡◌, inl, inr, false, not, IsTrue, IsErrOf, ap, ◌∙◌, arith}
-use Rattle.keeper_sqlite.specs.declared.refusal.Refusal.TheVariants.{Database}
-use Rattle.sqlite.specs.Held.{state}
-use Rattle.sqlite.specs.State.{HasCleanDisk}
-use Rattle.sqlite.proofs.StateLemmas.{survives_then}
-use Rattle.keeper_sqlite.specs.Making.{MayMake}
+use Rattle.keeper_sqlite.proofs.Common.{rules, ◌≡◌, inl, inr, false, not, IsTrue, IsErrOf, ap, ◌∙◌, arith, Database, state, HasCleanDisk, survives_then, MayMake}
 use Rattle.keeper_sqlite.proofs.Loads.{loaded}
 use Rattle.keeper_sqlite.proofs.load.load_from.Goals as goal
 

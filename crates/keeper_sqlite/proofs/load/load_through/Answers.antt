@@ -1,9 +1,4 @@
-use Rattle.std.proofs.Common.{◌≡◌, Bool, Some, IfOk, OnOk, sym, subst}
-use Rattle.mcy_keeper.specs.declared.book.Book.{Book}
-use Rattle.mcy_keeper.specs.Books.{LeavesNothingNew}
-use Rattle.keeper_sqlite.specs.declared.read.JournalTable.{JournalTable}
-use Rattle.keeper_sqlite.specs.Stands.{Holds, Leaves}
-use Rattle.keeper_sqlite.specs.Making.{LoadsTables}
+use Rattle.keeper_sqlite.proofs.Common.{◌≡◌, Bool, Some, IfOk, OnOk, sym, subst, Book, LeavesNothingNew, JournalTable, Holds, Leaves, LoadsTables}
 use Rattle.keeper_sqlite.proofs.Loads.{answered, found_tables, same_found, found_allowed, nothing_new, on_err}
 use Rattle.keeper_sqlite.proofs.load.load_through.Goals as goal
 

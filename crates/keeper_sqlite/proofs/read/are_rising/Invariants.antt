@@ -1,5 +1,4 @@
-use Rattle.std.proofs.Common.{◌+◌, ◌↔◌, length}
-use Rattle.keeper_sqlite.specs.Rows.{RisesFrom}
+use Rattle.keeper_sqlite.proofs.Common.{◌+◌, ◌↔◌, length, RisesFrom}
 use Rattle.keeper_sqlite.proofs.read.are_rising.Given as goal
 
 abbrev pub invariant-loop-rest : goal.invariant-loop-rest

@@ -1,6 +1,4 @@
-use Rattle.std.proofs.Common.{arith, length, ap, ◌≡◌, ◌∙◌}
-use Rattle.mcy_keeper.specs.declared.book.Entry.{Entry}
-use Rattle.keeper_sqlite.specs.Rows.{shown_entry}
+use Rattle.keeper_sqlite.proofs.Common.{arith, length, ap, ◌≡◌, ◌∙◌, Entry, shown_entry}
 use Rattle.keeper_sqlite.proofs.read.bound_of.Goals as goal
 
 pub number_at-requires : goal.number_at-requires

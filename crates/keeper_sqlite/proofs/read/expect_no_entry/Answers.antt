@@ -1,5 +1,4 @@
-use Rattle.std.proofs.Common.{rules, arith, length, ◌≡◌}
-use Rattle.keeper_sqlite.specs.Rows.{entry_row, rows_in}
+use Rattle.keeper_sqlite.proofs.Common.{rules, arith, length, ◌≡◌, entry_row, rows_in}
 use Rattle.keeper_sqlite.proofs.Reading.{none_left}
 use Rattle.keeper_sqlite.proofs.read.expect_no_entry.Goals as goal
 

@@ -1,5 +1,4 @@
-use Rattle.std.proofs.Common.{◌≡◌, length, arith, pos, ap, ◌∙◌}
-use Rattle.sqlite.specs.declared.types.Value.TheVariants.{Int}
+use Rattle.keeper_sqlite.proofs.Common.{◌≡◌, length, arith, pos, ap, ◌∙◌, Int}
 use Rattle.keeper_sqlite.proofs.Lists.{two_columns}
 use Rattle.keeper_sqlite.proofs.read.item_of.Goals as goal
 

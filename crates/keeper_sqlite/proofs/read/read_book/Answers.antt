@@ -1,13 +1,6 @@
-use Rattle.std.proofs.Common.{rules, ◌≡◌, arith, inl, inr, IsErrOf, IsPermutation, [], subst}
-use Rattle.sqlite.specs.Held.{state}
-use Rattle.sqlite.specs.State.{HasCleanDisk}
-use Rattle.sqlite.proofs.Callers.{unchanged_then}
-use Rattle.keeper_sqlite.specs.declared.refusal.Refusal.TheVariants.{Database}
+use Rattle.keeper_sqlite.proofs.Common.{rules, ◌≡◌, arith, inl, inr, IsErrOf, IsPermutation, [], subst, state, HasCleanDisk, unchanged_then, Database, Data, Book, item_rows, other_of, rows_in}
+use Rattle.keeper_sqlite.proofs.Common.{table_of, HoldsBook, HoldsJournal, IsNoRows}
 use Rattle.keeper_sqlite.specs.declared.read.ItemTable.TheVariants.{Meta, Mutations}
-use Rattle.sqlite.specs.Effect.{Database as Data}
-use Rattle.mcy_keeper.specs.declared.book.Book.{Book}
-use Rattle.keeper_sqlite.specs.Rows.{item_rows, other_of, rows_in, table_of, HoldsBook, HoldsJournal}
-use Rattle.keeper_sqlite.specs.Unloaded.{IsNoRows}
 use Rattle.keeper_sqlite.proofs.Refused.{still_itself}
 use Rattle.keeper_sqlite.proofs.read.read_book.Goals as goal
 

@@ -1,6 +1,4 @@
-use Rattle.std.proofs.Common.{arith, inr}
-use Rattle.sqlite.specs.Held.{state}
-use Rattle.sqlite.specs.State.{HasCleanDisk}
+use Rattle.keeper_sqlite.proofs.Common.{arith, inr, state, HasCleanDisk}
 use Rattle.keeper_sqlite.proofs.read.read_rows.Goals as goal
 
 pub returns-clause-fault : goal.returns-clause-fault

@@ -1,8 +1,4 @@
-use Rattle.std.proofs.Common.{arith, map}
-use Rattle.keeper_sqlite.specs.Rows.{shown_entry}
-use Rattle.sqlite.specs.State.{HasCleanDisk}
-use Rattle.sqlite.specs.Held.{state}
-use Rattle.keeper_sqlite.specs.Unloaded.{select_from}
+use Rattle.keeper_sqlite.proofs.Common.{arith, map, shown_entry, HasCleanDisk, state, select_from}
 use Rattle.keeper_sqlite.proofs.Selects.{shows_entries, ok_unchanged, entries_plain}
 use Rattle.keeper_sqlite.proofs.select.select_entries.Goals as goal
 

@@ -1,7 +1,4 @@
-use Rattle.std.proofs.Common.{arith}
-use Rattle.keeper_sqlite.specs.Rows.{shown_items}
-use Rattle.sqlite.specs.State.{HasCleanDisk}
-use Rattle.sqlite.specs.Held.{state}
+use Rattle.keeper_sqlite.proofs.Common.{arith, shown_items, HasCleanDisk, state}
 use Rattle.keeper_sqlite.proofs.Texts.{select_mutations_text}
 use Rattle.keeper_sqlite.proofs.Selects.{shows_mutations, ok_unchanged, mutations_plain}
 use Rattle.keeper_sqlite.proofs.select.select_mutations.Goals as goal

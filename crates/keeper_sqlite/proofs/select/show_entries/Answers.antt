@@ -1,13 +1,5 @@
-use Rattle.std.proofs.Common.{rules, arith, inl, inr, IsErrOf, length, length-append, ◌≡◌, refl, sym, ap, subst, ◌∙◌, [], ◌∷◌, ◌++◌, map}
-use Rattle.sqlite.specs.Held.{state}
-use Rattle.sqlite.specs.State.{HasCleanDisk, Survives, CommitsShowing}
-use Rattle.sqlite.proofs.Callers.{begun_plain, given_begin, unchanged_then}
-use Rattle.sqlite.specs.Given.{HasGiven}
-use Rattle.keeper_sqlite.specs.declared.refusal.Refusal.TheVariants.{Database}
-use Rattle.keeper_sqlite.specs.Refusals.{refusal_of}
-use Rattle.keeper_sqlite.specs.Unloaded.{IsNoEntries}
-use Rattle.keeper_sqlite.specs.Rows.{shown_entry, FitsTable}
-use Rattle.std.specs.List.{AllByRecursion}
+use Rattle.keeper_sqlite.proofs.Common.{rules, arith, inl, inr, IsErrOf, length, length-append, ◌≡◌, refl, sym, ap, subst, ◌∙◌, [], ◌∷◌, ◌++◌, map, state, HasCleanDisk, Survives, CommitsShowing}
+use Rattle.keeper_sqlite.proofs.Common.{begun_plain, given_begin, unchanged_then, HasGiven, Database, refusal_of, IsNoEntries, shown_entry, FitsTable, AllByRecursion}
 use Rattle.keeper_sqlite.proofs.Adding.{fit_push}
 use Rattle.keeper_sqlite.proofs.Refused.{still_itself, begins_from}
 use Rattle.keeper_sqlite.proofs.Lists.{map-push}

@@ -1,9 +1,4 @@
-use Rattle.std.proofs.Common.{◌≡◌, map, length, []}
-use Rattle.sqlite.specs.Held.{state}
-use Rattle.sqlite.specs.Given.{HasGiven}
-use Rattle.sqlite.specs.State.{HasCleanDisk, IsUnchanged, Survives}
-use Rattle.keeper_sqlite.specs.Rows.{shown_entry, FitsTable}
-use Rattle.std.specs.List.{AllByRecursion}
+use Rattle.keeper_sqlite.proofs.Common.{◌≡◌, map, length, [], state, HasGiven, HasCleanDisk, IsUnchanged, Survives, shown_entry, FitsTable, AllByRecursion}
 use Rattle.keeper_sqlite.proofs.select.show_entries.Given as goal
 
 abbrev pub invariant-rows : goal.invariant-rows

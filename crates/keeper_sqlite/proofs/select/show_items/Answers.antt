@@ -1,12 +1,5 @@
-use Rattle.std.proofs.Common.{rules, arith, inl, inr, IsErrOf, ◌≡◌, refl, sym, ap, subst, ◌∙◌, ◌+◌, [], ◌∷◌, ◌++◌, length, length-append}
-use Rattle.sqlite.specs.Held.{state}
-use Rattle.sqlite.specs.State.{HasCleanDisk, Survives, CommitsShowing}
-use Rattle.sqlite.proofs.Callers.{begun_plain, given_begin, unchanged_then}
-use Rattle.sqlite.specs.Given.{HasGiven}
-use Rattle.keeper_sqlite.specs.declared.refusal.Refusal.TheVariants.{Database}
-use Rattle.keeper_sqlite.specs.Refusals.{refusal_of}
-use Rattle.keeper_sqlite.specs.Unloaded.{IsNoItems}
-use Rattle.keeper_sqlite.specs.Rows.{shown_item, shown_items, IsNoItem}
+use Rattle.keeper_sqlite.proofs.Common.{rules, arith, inl, inr, IsErrOf, ◌≡◌, refl, sym, ap, subst, ◌∙◌, ◌+◌, [], ◌∷◌, ◌++◌, length, length-append, state, HasCleanDisk, Survives, CommitsShowing}
+use Rattle.keeper_sqlite.proofs.Common.{begun_plain, given_begin, unchanged_then, HasGiven, Database, refusal_of, IsNoItems, shown_item, shown_items, IsNoItem}
 use Rattle.keeper_sqlite.proofs.Refused.{still_itself, begins_from}
 use Rattle.keeper_sqlite.proofs.Lists.{items_push}
 use Rattle.keeper_sqlite.proofs.Selects.{commits_nothing, shown_from}

@@ -1,8 +1,4 @@
-use Rattle.std.proofs.Common.{◌≡◌, length, []}
-use Rattle.sqlite.specs.Held.{state}
-use Rattle.sqlite.specs.Given.{HasGiven}
-use Rattle.sqlite.specs.State.{HasCleanDisk, IsUnchanged, Survives}
-use Rattle.keeper_sqlite.specs.Rows.{shown_items}
+use Rattle.keeper_sqlite.proofs.Common.{◌≡◌, length, [], state, HasGiven, HasCleanDisk, IsUnchanged, Survives, shown_items}
 use Rattle.keeper_sqlite.proofs.select.show_items.Given as goal
 
 abbrev pub invariant-rows : goal.invariant-rows

@@ -1,5 +1,4 @@
-use Rattle.std.proofs.Common.{rules, ◌≡◌, codes, ◌∙◌, [], ◌∷◌}
-use Rattle.keeper_sqlite.specs.Tables.{key_column, number_column}
+use Rattle.keeper_sqlite.proofs.Common.{rules, ◌≡◌, codes, ◌∙◌, [], ◌∷◌, key_column, number_column}
 use Rattle.keeper_sqlite.proofs.Lists.{six}
 use Rattle.keeper_sqlite.proofs.tables.are_journal_columns.Goals as goal
 

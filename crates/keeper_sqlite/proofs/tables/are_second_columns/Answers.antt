@@ -1,5 +1,4 @@
-use Rattle.std.proofs.Common.{arith, ◌≡◌, ◌-◌, codes, length, take, ◌∙◌, [], ◌∷◌, ◌++◌}
-use Rattle.keeper_sqlite.specs.Tables.{journal_columns, number_column}
+use Rattle.keeper_sqlite.proofs.Common.{arith, ◌≡◌, ◌-◌, codes, length, take, ◌∙◌, [], ◌∷◌, ◌++◌, journal_columns, number_column}
 use Rattle.keeper_sqlite.proofs.Lists.{last_of}
 use Rattle.keeper_sqlite.proofs.tables.are_second_columns.Goals as goal
 

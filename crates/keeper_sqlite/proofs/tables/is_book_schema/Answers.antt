@@ -1,5 +1,4 @@
-use Rattle.std.proofs.Common.{rules, ◌≡◌, codes, ◌∙◌, [], ◌∷◌}
-use Rattle.keeper_sqlite.specs.Tables.{rowid_table, constraints, meta_columns, mutation_columns, journal_columns, second_columns}
+use Rattle.keeper_sqlite.proofs.Common.{rules, ◌≡◌, codes, ◌∙◌, [], ◌∷◌, rowid_table, constraints, meta_columns, mutation_columns, journal_columns, second_columns}
 use Rattle.keeper_sqlite.proofs.Lists.{four}
 use Rattle.keeper_sqlite.proofs.tables.is_book_schema.Goals as goal
 

@@ -1,5 +1,4 @@
-use Rattle.std.proofs.Common.{rules, ◌≡◌, codes, ◌∙◌, [], ◌∷◌}
-use Rattle.keeper_sqlite.specs.Tables.{rowid_table, constraints, meta_columns, mutation_columns, journal_columns}
+use Rattle.keeper_sqlite.proofs.Common.{rules, ◌≡◌, codes, ◌∙◌, [], ◌∷◌, rowid_table, constraints, meta_columns, mutation_columns, journal_columns}
 use Rattle.sqlite_schema.specs.declared.schema.Index.{Index}
 use Rattle.keeper_sqlite.proofs.Lists.{three}
 use Rattle.keeper_sqlite.proofs.tables.is_first_schema.Goals as goal

@@ -1,6 +1,4 @@
-use Rattle.std.proofs.Common.{[]}
-use Rattle.sqlite.specs.Held.{state}
-use Rattle.keeper_sqlite.specs.declared.statements.TheConstants.{CLEAR_JOURNAL}
+use Rattle.keeper_sqlite.proofs.Common.{[], state, CLEAR_JOURNAL}
 use Rattle.keeper_sqlite.proofs.Refused.{err_inside}
 use Rattle.keeper_sqlite.proofs.Upgrades.{clears}
 use Rattle.keeper_sqlite.proofs.upgrade.clear_first.Goals as goal

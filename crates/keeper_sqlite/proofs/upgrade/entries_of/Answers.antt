@@ -1,10 +1,5 @@
-use Rattle.std.proofs.Common.{rules, arith, ◌≡◌, ◌<◌, ◌+◌, ◌∷◌, ◌++◌, [], take, length, map, refl, sym, ap, subst, ◌∙◌, IsErrOf}
-use Rattle.std.specs.List.{AllByRecursion}
-use Rattle.std.proofs.lemmas.List.{take_more}
-use Rattle.std.proofs.lemmas.Option.{slice_get_read}
-use Rattle.keeper_sqlite.specs.declared.read.JournalTable.TheVariants.{First}
-use Rattle.keeper_sqlite.specs.declared.refusal.Refusal.TheVariants.{Database}
-use Rattle.keeper_sqlite.specs.Rows.{shown_entry, FitsTable}
+use Rattle.keeper_sqlite.proofs.Common.{rules, arith, ◌≡◌, ◌<◌, ◌+◌, ◌∷◌, ◌++◌, [], take, length, map, refl, sym, ap, subst, ◌∙◌, IsErrOf, AllByRecursion, take_more, slice_get_read, First, Database}
+use Rattle.keeper_sqlite.proofs.Common.{shown_entry, FitsTable}
 use Rattle.keeper_sqlite.proofs.Adding.{fit_push}
 use Rattle.keeper_sqlite.proofs.Lists.{map-push}
 use Rattle.keeper_sqlite.proofs.upgrade.entries_of.Goals as goal

@@ -1,7 +1,4 @@
-use Rattle.std.proofs.Common.{◌≡◌, map, take}
-use Rattle.std.specs.List.{AllByRecursion}
-use Rattle.keeper_sqlite.specs.declared.read.JournalTable.TheVariants.{First}
-use Rattle.keeper_sqlite.specs.Rows.{shown_entry, FitsTable}
+use Rattle.keeper_sqlite.proofs.Common.{◌≡◌, map, take, AllByRecursion, First, shown_entry, FitsTable}
 use Rattle.keeper_sqlite.proofs.upgrade.entries_of.Given as goal
 
 abbrev pub invariant-loop-row : goal.invariant-loop-row

@@ -1,13 +1,5 @@
-use Rattle.std.proofs.Common.{rules, arith, inl, inr, ◌≡◌, refl, sym, subst, ◌∙◌, IsErrOf}
-use Rattle.sqlite.specs.Held.{state}
-use Rattle.sqlite.specs.Tree.{Trees}
-use Rattle.sqlite.specs.State.{HasCleanDisk, Survives}
-use Rattle.sqlite.proofs.StateLemmas.{survives_then}
-use Rattle.sqlite.proofs.Callers.{survives_begin}
-use Rattle.keeper_sqlite.specs.declared.refusal.Refusal.TheVariants.{Database}
-use Rattle.keeper_sqlite.specs.Refusals.{refusal_of}
-use Rattle.keeper_sqlite.specs.Tables.{IsBookSchema}
-use Rattle.keeper_sqlite.specs.Upgrading.{HasUpgraded, MayUpgrade, Upgrades}
+use Rattle.keeper_sqlite.proofs.Common.{rules, arith, inl, inr, ◌≡◌, refl, sym, subst, ◌∙◌, IsErrOf, state, Trees, HasCleanDisk, Survives, survives_then, survives_begin, Database, refusal_of}
+use Rattle.keeper_sqlite.proofs.Common.{IsBookSchema, HasUpgraded, MayUpgrade, Upgrades}
 use Rattle.keeper_sqlite.proofs.upgrade.move_all.Goals as goal
 
 pub returns-clause-upgraded : goal.returns-clause-upgraded

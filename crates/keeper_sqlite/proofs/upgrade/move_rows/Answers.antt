@@ -1,11 +1,4 @@
-use Rattle.std.proofs.Common.{rules, arith, inl, inr, ◌≡◌, sym, subst, IsErrOf, IsTrue}
-use Rattle.sqlite.specs.Held.{state}
-use Rattle.sqlite.specs.State.{HasCleanDisk}
-use Rattle.sqlite.specs.Effect.{Database as Data}
-use Rattle.mcy_keeper.specs.Books.{with_bounds}
-use Rattle.keeper_sqlite.specs.declared.refusal.Refusal.TheVariants.{Database}
-use Rattle.keeper_sqlite.specs.Tables.{IsBookSchema}
-use Rattle.keeper_sqlite.specs.Upgrading.{AreNotMoved, HasMoved}
+use Rattle.keeper_sqlite.proofs.Common.{rules, arith, inl, inr, ◌≡◌, sym, subst, IsErrOf, IsTrue, state, HasCleanDisk, Data, with_bounds, Database, IsBookSchema, AreNotMoved, HasMoved}
 use Rattle.keeper_sqlite.proofs.Begins.{keeps_on, survives_on}
 use Rattle.keeper_sqlite.proofs.Upgrades.{moved_from, ok_weaker}
 use Rattle.keeper_sqlite.proofs.upgrade.move_rows.Goals as goal

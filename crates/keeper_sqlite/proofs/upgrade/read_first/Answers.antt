@@ -1,11 +1,5 @@
-use Rattle.std.proofs.Common.{rules, inl, inr, ◌≡◌, [], false, true, map, sym, subst, IsErrOf}
-use Rattle.sqlite.specs.Held.{state}
-use Rattle.sqlite.specs.State.{Shown}
-use Rattle.keeper_sqlite.specs.declared.read.JournalTable.TheVariants.{First}
-use Rattle.keeper_sqlite.specs.declared.refusal.Refusal.TheVariants.{Database}
-use Rattle.keeper_sqlite.specs.declared.statements.TheConstants.{SELECT_JOURNAL}
-use Rattle.keeper_sqlite.specs.Refusals.{refusal_of}
-use Rattle.keeper_sqlite.specs.Rows.{shown_entry, HoldsJournal, RisesFrom}
+use Rattle.keeper_sqlite.proofs.Common.{rules, inl, inr, ◌≡◌, [], false, true, map, sym, subst, IsErrOf, state, Shown, First, Database, SELECT_JOURNAL, refusal_of, shown_entry, HoldsJournal}
+use Rattle.keeper_sqlite.proofs.Common.{RisesFrom}
 use Rattle.keeper_sqlite.proofs.Reading.{failed_inside, query_keeps, unchanged_keeps}
 use Rattle.keeper_sqlite.proofs.Selects.{entries_plain, holds_entries, shows_unchanged}
 use Rattle.keeper_sqlite.proofs.upgrade.read_first.Goals as goal

@@ -1,6 +1,4 @@
-use Rattle.std.proofs.Common.{[]}
-use Rattle.sqlite.specs.Held.{state}
-use Rattle.keeper_sqlite.specs.declared.statements.TheConstants.{NUMBER_SECOND}
+use Rattle.keeper_sqlite.proofs.Common.{[], state, NUMBER_SECOND}
 use Rattle.keeper_sqlite.proofs.Refused.{err_inside}
 use Rattle.keeper_sqlite.proofs.Renumbers.{numbers}
 use Rattle.keeper_sqlite.proofs.upgrade.renumber.Goals as goal

@@ -1,9 +1,4 @@
-use Rattle.std.proofs.Common.{◌≡◌, length, true, Some, OnOk, OnErr, sym, subst}
-use Rattle.mcy_keeper.specs.declared.book.Book.{Book}
-use Rattle.mcy_keeper.specs.Books.{IsFirst, upgraded, Keeps, LeavesEither}
-use Rattle.keeper_sqlite.specs.declared.read.JournalTable.{JournalTable}
-use Rattle.keeper_sqlite.specs.declared.read.JournalTable.TheVariants.{Second}
-use Rattle.keeper_sqlite.specs.Stands.{Holds, Leaves}
+use Rattle.keeper_sqlite.proofs.Common.{◌≡◌, length, true, Some, OnOk, OnErr, sym, subst, Book, IsFirst, upgraded, Keeps, LeavesEither, JournalTable, Second, Holds, Leaves}
 use Rattle.keeper_sqlite.proofs.Keeping.{upgraded_told, upgraded_either}
 use Rattle.keeper_sqlite.proofs.upgrade.upgrade_through.Goals as goal
 

@@ -1,15 +1,5 @@
-use Rattle.std.proofs.Common.{rules, arith, ◌≡◌, ◌<◌, ◌+◌, [], ◌∷◌, get_or, length, sym, subst, ◌∙◌, ap, ◌++◌, map, take}
-use Rattle.std.proofs.lemmas.List.{map_more}
-use Rattle.std.proofs.lemmas.Option.{slice_get-get_or}
-use Rattle.sqlite.specs.Held.{state}
-use Rattle.sqlite.specs.State.{HasCleanDisk}
-use Rattle.mcy_keeper.specs.declared.book.Entry.{Entry}
-use Rattle.keeper_sqlite.specs.declared.read.JournalTable.TheVariants.{Second}
-use Rattle.keeper_sqlite.specs.declared.refusal.Refusal.TheVariants.{Database}
-use Rattle.keeper_sqlite.specs.Refusals.{refusal_of}
-use Rattle.keeper_sqlite.specs.Tables.{IsBookSchema, second_tree}
-use Rattle.keeper_sqlite.specs.Rows.{entry_row}
-use Rattle.keeper_sqlite.specs.Writing.{Wrote}
+use Rattle.keeper_sqlite.proofs.Common.{rules, arith, ◌≡◌, ◌<◌, ◌+◌, [], ◌∷◌, get_or, length, sym, subst, ◌∙◌, ap, ◌++◌, map, take, map_more, slice_get-get_or, state, HasCleanDisk, Entry, Second}
+use Rattle.keeper_sqlite.proofs.Common.{Database, refusal_of, IsBookSchema, second_tree, entry_row, Wrote}
 use Rattle.keeper_sqlite.proofs.Begins.{survives_on, keeps_on, wrote_more}
 use Rattle.keeper_sqlite.proofs.upgrade.write_entries.Goals as goal
 

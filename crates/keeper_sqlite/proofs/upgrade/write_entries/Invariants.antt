@@ -1,10 +1,4 @@
-use Rattle.std.proofs.Common.{◌≡◌, IsTrue, map, take}
-use Rattle.sqlite.specs.Held.{state}
-use Rattle.sqlite.specs.State.{HasCleanDisk, KeepsCommit, Survives}
-use Rattle.keeper_sqlite.specs.declared.read.JournalTable.TheVariants.{Second}
-use Rattle.keeper_sqlite.specs.Tables.{IsBookSchema, second_tree}
-use Rattle.keeper_sqlite.specs.Rows.{entry_row}
-use Rattle.keeper_sqlite.specs.Writing.{Wrote}
+use Rattle.keeper_sqlite.proofs.Common.{◌≡◌, IsTrue, map, take, state, HasCleanDisk, KeepsCommit, Survives, Second, IsBookSchema, second_tree, entry_row, Wrote}
 use Rattle.keeper_sqlite.proofs.upgrade.write_entries.Given as goal
 
 abbrev pub invariant-loop-entry : goal.invariant-loop-entry

@@ -1,9 +1,4 @@
-use Rattle.std.proofs.Common.{rules, arith, inl, inr, ◌≡◌, ◌∙◌, sym, subst, IsErrOf}
-use Rattle.sqlite.specs.Held.{state}
-use Rattle.sqlite.specs.State.{HasCleanDisk}
-use Rattle.keeper_sqlite.specs.declared.refusal.Refusal.TheVariants.{Database}
-use Rattle.keeper_sqlite.specs.Refusals.{refusal_of}
-use Rattle.keeper_sqlite.specs.Tables.{IsBookSchema}
+use Rattle.keeper_sqlite.proofs.Common.{rules, arith, inl, inr, ◌≡◌, ◌∙◌, sym, subst, IsErrOf, state, HasCleanDisk, Database, refusal_of, IsBookSchema}
 use Rattle.keeper_sqlite.proofs.Begins.{keeps_on, survives_on}
 use Rattle.keeper_sqlite.proofs.Upgrades.{moved_rows}
 use Rattle.keeper_sqlite.proofs.upgrade.write_moved.Goals as goal

@@ -1,18 +1,10 @@
-use Rattle.std.proofs.Common.{◌∙◌, ◌≤◌, ℕ, refl, sym, ap, subst, arith, add-one, rules}
-use Rattle.std.specs.Prelude.{Some}
+use Rattle.loop_turns.proofs.Common.{◌∙◌, ◌≤◌, ℕ, refl, sym, ap, subst, arith, add-one, rules, Some, out-CaseItem, the_lemmas, Decl, Constant, Names, names_of, with_name, AreSized, loop_of}
+use Rattle.loop_turns.proofs.Common.{sized_after, some_after, alike_after, put_back, Ends, IsLeft, IsTurn, item_turns, turns_of}
 use Rattle.vlog_syntax.specs.declared.left_side.LeftSide.TheViews.{the_lemmas as left_lemmas}
-use Rattle.vlog_syntax.specs.declared.stmt.CaseItem.{out-CaseItem}
-use Rattle.vlog_syntax.specs.declared.stmt.Stmt.TheViews.{the_lemmas}
-use Rattle.vlog_meaning.specs.declared.scope.Decl.{Decl}
-use Rattle.vlog_meaning.specs.declared.scope.Decl.TheVariants.{Constant}
-use Rattle.vlog_meaning.specs.Scopes.{Names, names_of, with_name}
-use Rattle.elab_proc.specs.Refusals.{AreSized}
-use Rattle.elab_proc.specs.Turns.{loop_of}
-use Rattle.elab_proc.proofs.TurnLemmas.{sized_after, some_after, alike_after, put_back}
-use Rattle.loop_turns.specs.declared.walk.Turn.TheVariants.{Ends}
-use Rattle.loop_turns.specs.Counts.{IsLeft, IsTurn, item_turns, turns_of}
 use Rattle.loop_turns.proofs.Turning.{leads_end, leads_none, leads_on, leads_pass, taken_ends, taken_goes, taken_none, taken_passes, turn_comes, turn_ends, turn_fails}
-use Rattle.loop_turns.proofs.Walking.{before_end, before_first, before_next, before_passes, both_counted, first_more, item_is, left_as, left_both, left_none, of_block, of_blocking, of_both, of_case, of_delay, of_event, of_forever, of_loop, of_nonblocking, of_null, of_one, of_repeat, of_task, of_while, start_constant, start_fails, start_goes, start_no_name, start_none}
+use Rattle.loop_turns.proofs.Walking.{before_end, before_first, before_next, before_passes, both_counted, first_more, item_is, left_as, left_both, left_none, of_block, of_blocking, of_both, of_case}
+use Rattle.loop_turns.proofs.Walking.{of_delay, of_event, of_forever, of_loop, of_nonblocking, of_null, of_one, of_repeat, of_task, of_while, start_constant, start_fails, start_goes, start_no_name}
+use Rattle.loop_turns.proofs.Walking.{start_none}
 use Rattle.loop_turns.proofs.walk.+count.Goals as goal
 
 pub statement_left-returns-in-SeqBlock-clause-left : goal.statement_left-returns-in-SeqBlock-clause-left

@@ -1,10 +1,4 @@
-use Rattle.std.proofs.Common.{◌≡◌, ◌+◌, ◌*◌}
-use Rattle.std.specs.Prelude.{IsSome}
-use Rattle.vlog_syntax.specs.declared.stmt.Stmt.TheViews.{size-Stmt}
-use Rattle.vlog_meaning.specs.Scopes.{Names, names_of}
-use Rattle.elab_proc.specs.Refusals.{AreSized}
-use Rattle.elab_proc.specs.Turns.{loop_of, AlikeBut}
-use Rattle.loop_turns.specs.Counts.{item_turns, turns_of}
+use Rattle.loop_turns.proofs.Common.{◌≡◌, ◌+◌, ◌*◌, IsSome, size-Stmt, Names, names_of, AreSized, loop_of, AlikeBut, item_turns, turns_of}
 use Rattle.loop_turns.proofs.Turning.{Leads}
 use Rattle.loop_turns.proofs.Walking.{LeftBefore}
 use Rattle.loop_turns.proofs.walk.+count.Given as goal

@@ -1,6 +1,4 @@
-use Rattle.std.proofs.Common.{◌≡◌, ◌<◌, ◌-◌, ◌++◌, ◌∷◌, ◌∙◌, ℕ, [], length, take, map, set, ap, refl, arith}
-use Rattle.std.proofs.Math.Seq.{map-set_same}
-use Rattle.std.proofs.lemmas.List.{length-set}
+use Rattle.lrat_checker.proofs.Common.{◌≡◌, ◌<◌, ◌-◌, ◌++◌, ◌∷◌, ◌∙◌, ℕ, [], length, take, map, set, ap, refl, arith, map-set_same, length-set}
 use Rattle.lrat_checker.proofs.Guarding.{list-changed, moved-by, on-err}
 use Rattle.lrat_checker.proofs.guards.move_number.Goals as goal
 

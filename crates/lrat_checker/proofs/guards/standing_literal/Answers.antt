@@ -1,8 +1,4 @@
-use Rattle.std.proofs.Common.{◌<◌, ◌-◌, ℤ, pos, length, get_or, sym, subst, arith, rules}
-use Rattle.std.specs.Prelude.{FitsSigned, Contains}
-use Rattle.std.specs.Int.{w32}
-use Rattle.std.proofs.lemmas.Int.{to_z-of_z}
-use Rattle.std.proofs.lemmas.List.Elements.{Contains-get_or}
+use Rattle.lrat_checker.proofs.Common.{◌<◌, ◌-◌, ℤ, pos, length, get_or, sym, subst, arith, rules, FitsSigned, Contains, w32, to_z-of_z, Contains-get_or}
 use Rattle.lrat_checker.proofs.guards.standing_literal.Goals as goal
 
 pub returns-then-not-is_false : goal.returns-then-not-is_false

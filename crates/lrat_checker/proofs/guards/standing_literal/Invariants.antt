@@ -1,4 +1,4 @@
-use Rattle.std.proofs.Common.{◌≤◌, length}
+use Rattle.lrat_checker.proofs.Common.{◌≤◌, length}
 use Rattle.lrat_checker.proofs.guards.standing_literal.Given as goal
 
 abbrev pub invariant-loop-left : goal.invariant-loop-left

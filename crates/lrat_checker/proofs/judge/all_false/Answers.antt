@@ -1,9 +1,4 @@
-use Rattle.std.proofs.Common.{◌≡◌, pos, get_or, take, sym, arith, rules}
-use Rattle.std.proofs.lemmas.Int.{to_z-of_z}
-use Rattle.std.proofs.lemmas.List.{take_all}
-use Rattle.std.specs.Prelude.{FitsSigned}
-use Rattle.std.specs.Int.{w32}
-use Rattle.lrat_checker.specs.Tables.{known_of}
+use Rattle.lrat_checker.proofs.Common.{◌≡◌, pos, get_or, take, sym, arith, rules, to_z-of_z, take_all, FitsSigned, w32, known_of}
 use Rattle.lrat_checker.proofs.Finding.{false-more}
 use Rattle.lrat_checker.proofs.judge.all_false.Goals as goal
 

@@ -1,6 +1,4 @@
-use Rattle.std.proofs.Common.{drop, refl}
-use Rattle.lrat_checker.specs.Guards.{lists_of}
-use Rattle.lrat_checker.specs.Tables.{known_of}
+use Rattle.lrat_checker.proofs.Common.{drop, refl, lists_of, known_of}
 use Rattle.lrat_checker.proofs.Guarding.{none-falsified}
 use Rattle.lrat_checker.proofs.judge.find_contained.Goals as goal
 

@@ -1,6 +1,4 @@
-use Rattle.std.proofs.Common.{◌≡◌, ◌-◌, ◌+◌, take, drop, arith, rules, slice_get, Some, true, false}
-use Rattle.std.proofs.lemmas.List.{take_all, length-drop}
-use Rattle.lrat_checker.specs.Tables.{known_of}
+use Rattle.lrat_checker.proofs.Common.{◌≡◌, ◌-◌, ◌+◌, take, drop, arith, rules, slice_get, Some, true, false, take_all, length-drop, known_of}
 use Rattle.lrat_checker.proofs.Finding.{unfalsified-more, first-falsified}
 use Rattle.lrat_checker.proofs.judge.find_falsified.Goals as goal
 

@@ -1,10 +1,4 @@
-use Rattle.std.proofs.Common.{◌≡◌, ◌<◌, [], ◌∷◌, get_or, ◌∙◌, sym, arith, rules, length, ◌-◌, Some}
-use Rattle.std.proofs.lemmas.Int.{to_z-of_z}
-use Rattle.std.specs.Prelude.{FitsSigned, All}
-use Rattle.std.specs.Int.{w32}
-use Rattle.clause_store.specs.Clauses.{variable}
-use Rattle.clause_store.specs.Propagation.{clause_at, with_true}
-use Rattle.lrat_checker.specs.Tables.{known_of}
+use Rattle.lrat_checker.proofs.Common.{◌≡◌, ◌<◌, [], ◌∷◌, get_or, ◌∙◌, sym, arith, rules, length, ◌-◌, Some, to_z-of_z, FitsSigned, All, w32, variable, clause_at, with_true, known_of}
 use Rattle.lrat_checker.proofs.Following.{clause-within, unit_variable, clause_at-place, propagates-more, reaches}
 use Rattle.lrat_checker.proofs.judge.follow.Goals as goal
 

@@ -1,10 +1,4 @@
-use Rattle.std.proofs.Common.{ℤ, List, take, drop, ◌-◌, length, sym, subst}
-use Rattle.std.proofs.lemmas.List.{take-append-drop}
-use Rattle.clause_store.specs.Propagation.{Known, none, with_false}
-use Rattle.lrat_checker.specs.LegalLogs.{IsNew, Log}
-use Rattle.lrat_checker.specs.Refusals.{IsRefused, IsFit}
-use Rattle.lrat_checker.specs.Steps.{IsFollowing}
-use Rattle.lrat_checker.specs.Tables.{known_of}
+use Rattle.lrat_checker.proofs.Common.{ℤ, List, take, drop, ◌-◌, length, sym, subst, take-append-drop, Known, none, with_false, IsNew, Log, IsRefused, IsFit, IsFollowing, known_of}
 use Rattle.lrat_checker.proofs.Judging.{new-from_unfalsified, contained-from_first, ok-weaker, err-weaker, goes-on, refused-following}
 use Rattle.lrat_checker.proofs.judge.judge.Goals as goal
 

@@ -1,8 +1,4 @@
-use Rattle.std.proofs.Common.{pos, get_or, ◌∙◌, rules}
-use Rattle.std.proofs.lemmas.Int.{to_z-of_z}
-use Rattle.std.specs.Prelude.{FitsSigned}
-use Rattle.std.specs.Int.{w32}
-use Rattle.lrat_checker.specs.Tables.{known_of}
+use Rattle.lrat_checker.proofs.Common.{pos, get_or, ◌∙◌, rules, to_z-of_z, FitsSigned, w32, known_of}
 use Rattle.lrat_checker.proofs.Placing.{bad-literal, place-more}
 use Rattle.lrat_checker.proofs.judge.place_lemma.Goals as goal
 

@@ -1,8 +1,4 @@
-use Rattle.std.proofs.Common.{pos, get_or, sym, rules}
-use Rattle.std.proofs.lemmas.Int.{to_z-of_z}
-use Rattle.std.specs.Prelude.{FitsSigned}
-use Rattle.std.specs.Int.{w32}
-use Rattle.lrat_checker.specs.Tables.{known_of}
+use Rattle.lrat_checker.proofs.Common.{pos, get_or, sym, rules, to_z-of_z, FitsSigned, w32, known_of}
 use Rattle.lrat_checker.proofs.Examining.{two_left}
 use Rattle.lrat_checker.proofs.partial.examine.Goals as goal
 

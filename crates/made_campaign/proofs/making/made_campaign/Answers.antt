@@ -1,11 +1,5 @@
-use Rattle.std.proofs.Common.{◌≡◌, ◌∙◌, subst, arith, false, Option, Some}
-use Rattle.std.specs.Prelude.{IfOk, IfErr}
+use Rattle.made_campaign.proofs.Common.{◌≡◌, ◌∙◌, subst, arith, false, Option, Some, IfOk, IfErr, Held, Prepared, IsMade, IsUnmade, made_held, made_limit}
 use Rattle.std.proofs.lemmas.Result.{IfOk-weaker}
-use Rattle.mcy_outside.specs.Files.{Held}
-use Rattle.campaign_reading.specs.Prepared.{Prepared}
-use Rattle.campaign_reading.specs.Files.{IsMade}
-use Rattle.campaign_reading.specs.Reads.{IsUnmade}
-use Rattle.made_campaign.specs.Made.{made_held, made_limit}
 use Rattle.made_campaign.proofs.Refusing.{fixed_made, held_of, limit_made, texts_of}
 use Rattle.made_campaign.proofs.making.made_campaign.Goals as goal
 

@@ -1,6 +1,7 @@
 use Rattle.std.proofs.Common.{◌∙◌}
-use Rattle.mcy_cases.proofs.Driving.{begins_kept, plan_begins}
+use Rattle.mcy_cases.proofs.Driving.{begins_kept}
 use Rattle.mcy_cases.proofs.events.begin.Goals as goal
+use Rattle.mcy_top.proofs.Kept.{plan_begun}
 
 -- what the keeper tells is the loaded book, which is empty
 pub begin-requires-clause-empty : goal.begin-requires-clause-empty
@@ -9,7 +10,7 @@ begin-requires-clause-empty g c was held =
     g.met.K.Keeper.one c.load.new.self was c.in_ok-loaded.loaded held kept.told ∙ c.is_blank.ensures.0 c.if-is_blank.true
 
 pub begin-requires-clause-meta : goal.begin-requires-clause-meta
-begin-requires-clause-meta g c = plan_begins c.args.prepared.now c.requires.plan
+begin-requires-clause-meta g c = plan_begun c.args.prepared.now c.requires.plan
 
 pub returns-then-is_blank-clause-kept : goal.returns-then-is_blank-clause-kept
 returns-then-is_blank-clause-kept g c tells =

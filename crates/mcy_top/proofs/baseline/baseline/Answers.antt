@@ -1,4 +1,4 @@
-use Rattle.std.proofs.Common.{◌∙◌}
+use Rattle.mcy_top.proofs.Common.{◌∙◌}
 use Rattle.mcy_top.proofs.BaselineEnds.{delivered_answered, delivered_cause, delivered_quiet, delivered_tells, delivers_of, passes_of, tests_have_names}
 use Rattle.mcy_top.proofs.baseline.baseline.Goals as goal
 

@@ -1,10 +1,5 @@
-use Rattle.std.proofs.Common.{◌≡◌, ◌≢◌, ◌∙◌, [], Option, ap, inl, inr}
-use Rattle.std.proofs.lemmas.Result.{IfOk-weaker}
-use Rattle.mcy_outside.specs.Files.{Held}
-use Rattle.campaign_plan.specs.Campaigns.{IsPlan}
+use Rattle.mcy_top.proofs.Common.{◌≡◌, ◌≢◌, ◌∙◌, [], Option, ap, inl, inr, IfOk-weaker, Held, IsPlan, failing_text, IsFailingText}
 use Rattle.campaign_reading.specs.declared.refusal.Refusal.TheVariants.{Memory}
-use Rattle.campaign_baseline.specs.Lines.{failing_text}
-use Rattle.mcy_top.specs.Baselines.{IsFailingText}
 use Rattle.mcy_top.proofs.BaselineEnds.{tests_have_names}
 use Rattle.mcy_top.proofs.baseline.failing_baselines.Goals as goal
 

@@ -1,5 +1,4 @@
-use Rattle.std.proofs.Common.{List, ℕ, inr, refl, subst}
-use Rattle.mcy_top.specs.Endings.{Delivers}
+use Rattle.mcy_top.proofs.Common.{List, ℕ, inr, refl, subst, Delivers}
 use Rattle.mcy_top.proofs.ShownEnds.{delivered_cause, delivered_quiet, delivered_shown, refused_cause, refused_quiet, refused_shown}
 use Rattle.mcy_top.proofs.demo.demo.Goals as goal
 

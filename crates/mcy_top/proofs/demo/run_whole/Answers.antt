@@ -1,7 +1,5 @@
-use Rattle.std.proofs.Common.{[], None, arith, ap, subst, sym}
-use Rattle.result_book.specs.Goals.{IsGoal}
+use Rattle.mcy_top.proofs.Common.{[], None, arith, ap, subst, sym, IsGoal, plain_limit}
 use Rattle.mcy_top.specs.KeptTexts.{Kept}
-use Rattle.campaign_baseline.proofs.Limiting.{plain_limit}
 use Rattle.mcy_top.proofs.Aiming.{none_again}
 use Rattle.mcy_top.proofs.ShownEnds.{kept_blank}
 use Rattle.mcy_top.proofs.Showing.{part_ran, ran_done, ran_none}

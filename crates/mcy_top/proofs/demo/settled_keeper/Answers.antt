@@ -1,6 +1,5 @@
-use Rattle.std.proofs.Common.{◌∙◌, sym, ap}
+use Rattle.mcy_top.proofs.Common.{◌∙◌, sym, ap, blank}
 use Rattle.mcy_keeper.specs.CleanKeeper.{Kept}
-use Rattle.mcy_keeper.specs.Books.{blank}
 use Rattle.mcy_top.proofs.demo.settled_keeper.Goals as goal
 
 -- the book that was loaded is the empty one, and is the one that is kept

@@ -1,7 +1,4 @@
-use Rattle.std.proofs.Common.{◌≡◌, ◌∙◌, ap}
-use Rattle.std.proofs.lemmas.Result.{IfOk-weaker}
-use Rattle.made_project.specs.Summaries.{summary_text}
-use Rattle.mcy_top.specs.Shown.{IsSummary}
+use Rattle.mcy_top.proofs.Common.{◌≡◌, ◌∙◌, ap, IfOk-weaker, summary_text, IsSummary}
 use Rattle.mcy_top.proofs.ShownEnds.{made_plan, part_is, summary_is}
 use Rattle.mcy_top.proofs.demo.summary_of.Goals as goal
 

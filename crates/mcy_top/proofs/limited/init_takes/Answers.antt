@@ -1,4 +1,4 @@
-use Rattle.command_words.specs.declared.command.Command.TheVariants.{Init}
+use Rattle.mcy_top.proofs.Common.{Init}
 use Rattle.mcy_top.proofs.limited.init_takes.Goals as goal
 
 pub returns-then-is_blank-clause-taken : goal.returns-then-is_blank-clause-taken

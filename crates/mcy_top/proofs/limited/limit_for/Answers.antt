@@ -1,9 +1,5 @@
-use Rattle.std.proofs.Common.{◌∙◌, sym}
+use Rattle.mcy_top.proofs.Common.{◌∙◌, sym, IfOk-weaker, MatchOption, FailsBaselines, IsLimitOf, IsLimitFor, IsUnfit}
 use Rattle.std.proofs.lemmas.Bool.{false≢true}
-use Rattle.std.proofs.lemmas.Result.{IfOk-weaker}
-use Rattle.std.specs.Prelude.{MatchOption}
-use Rattle.campaign_run.specs.Limits.{FailsBaselines, IsLimitOf}
-use Rattle.mcy_top.specs.Limits.{IsLimitFor, IsUnfit}
 use Rattle.mcy_top.proofs.Limiting.{limit_found, limit_plain}
 use Rattle.mcy_top.proofs.limited.limit_for.Goals as goal
 

@@ -1,5 +1,4 @@
-use Rattle.std.proofs.Common.{ℕ, subst}
-use Rattle.mcy_top.specs.Shown.{Shown}
+use Rattle.mcy_top.proofs.Common.{ℕ, subst, Shown}
 use Rattle.mcy_top.proofs.main_call.call_with.Goals as goal
 
 pub returns-clause-demo : goal.returns-clause-demo

@@ -1,14 +1,5 @@
-use Rattle.std.proofs.Common.{◌≡◌, List, ℕ, Option, Some, inl, inr, map, string_bytes, refl, sym, ap, subst, ◌∙◌, rules}
-use Rattle.mcy_outside.specs.Files.{Held}
-use Rattle.command_words.specs.declared.command.Command.TheVariants.{Demo}
-use Rattle.command_words.proofs.Limits.{cells_are_few}
-use Rattle.command_words.specs.Commands.{asked_of, command_of}
-use Rattle.result_book.specs.declared.goal.Goal.{Goal}
-use Rattle.result_book.specs.Goals.{IsGoal}
-use Rattle.mcy_top.specs.Commands.{aim_of, goal_of, AsksBaseline}
-use Rattle.mcy_top.specs.Life.{IsAccepted}
-use Rattle.mcy_top.specs.LimitedWork.{WorkUnder}
-use Rattle.mcy_top.specs.Shown.{Shown}
+use Rattle.mcy_top.proofs.Common.{◌≡◌, List, ℕ, Option, Some, inl, inr, map, string_bytes, refl, sym, ap, subst, ◌∙◌, rules, Held, Demo, cells_are_few, asked_of, command_of, Goal, IsGoal, aim_of}
+use Rattle.mcy_top.proofs.Common.{goal_of, AsksBaseline, IsAccepted, WorkUnder, Shown}
 use Rattle.mcy_top.proofs.Aiming.{asks_no_baseline, asks_none, demo_is, demo_no_baseline, given_is, goal_is, numbers_are, slots_are, works_on}
 use Rattle.mcy_top.proofs.Answered.{failed_answered, late_answered}
 use Rattle.mcy_top.proofs.Limiting.{made_limited}

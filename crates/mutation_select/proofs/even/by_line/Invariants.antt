@@ -1,5 +1,4 @@
-use Rattle.std.proofs.Common.{◌≡◌, ◌≤◌, ◌++◌, drop, None}
-use Rattle.mutation_select.specs.Walks.{ranked_from}
+use Rattle.mutation_select.proofs.Common.{◌≡◌, ◌≤◌, ◌++◌, drop, None, ranked_from}
 use Rattle.mutation_select.proofs.even.by_line.Given as goal
 
 abbrev pub invariant-loop-site : goal.invariant-loop-site

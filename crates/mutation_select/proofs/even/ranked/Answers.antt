@@ -1,7 +1,4 @@
-use Rattle.std.proofs.Common.{rules, sym, subst}
-use Rattle.std.specs.List.Sorted.{IsPermutation}
-use Rattle.std.proofs.lemmas.Result.{IfOk-weaker}
-use Rattle.mutation_select.specs.Selection.{ranked}
+use Rattle.mutation_select.proofs.Common.{sym, subst, IsPermutation, IfOk-weaker, ranked}
 use Rattle.mutation_select.proofs.Ranks.{ranked-walk}
 use Rattle.mutation_select.proofs.even.ranked.Goals as goal
 

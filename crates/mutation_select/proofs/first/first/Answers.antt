@@ -1,5 +1,4 @@
-use Rattle.std.proofs.Common.{◌≡◌, ◌≤◌, length, min, rules, arith}
-use Rattle.std.proofs.lemmas.Bool.{cases_lt}
+use Rattle.mutation_select.proofs.Common.{◌≤◌, length, min, rules, arith}
 use Rattle.mutation_select.proofs.Firsts.{as-many, of-all, of-more}
 use Rattle.mutation_select.proofs.first.first.Goals as goal
 

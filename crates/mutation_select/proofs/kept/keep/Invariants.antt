@@ -1,5 +1,4 @@
-use Rattle.std.proofs.Common.{◌≡◌, take}
-use Rattle.mutation_select.specs.Selection.{kept}
+use Rattle.mutation_select.proofs.Common.{◌≡◌, take, kept}
 use Rattle.mutation_select.proofs.kept.keep.Given as goal
 
 abbrev pub invariant-loop-site : goal.invariant-loop-site

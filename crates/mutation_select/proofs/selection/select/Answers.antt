@@ -1,11 +1,5 @@
-use Rattle.std.proofs.Common.{◌≡◌, List, length, map, min, ap, sym, ◌∙◌, subst, arith}
-use Rattle.std.proofs.lemmas.Result.{IfOk-weaker}
-use Rattle.std.specs.List.Sorted.{IsPermutation}
-use Rattle.std.proofs.lemmas.List.Sorted.{length_permutation}
-use Rattle.mutation_select.specs.declared.words.Drawn.{Drawn}
-use Rattle.mutation_select.specs.Draws.{drawn, generator}
-use Rattle.mutation_select.specs.Selection.{draw_number, draws, kept, number_of, selected}
-use Rattle.mutation_select.specs.Walks.{Ascends}
+use Rattle.mutation_select.proofs.Common.{◌≡◌, List, length, map, min, ap, sym, ◌∙◌, subst, arith, IfOk-weaker, IsPermutation, length_permutation, Drawn, drawn, generator, draw_number, draws, kept}
+use Rattle.mutation_select.proofs.Common.{number_of, selected, Ascends}
 use Rattle.mutation_select.proofs.Numbered.{drawn-ascends, kept-ascends, length-drawn, length-draws, length-kept, numbers-of-draws}
 use Rattle.mutation_select.proofs.selection.select.Goals as goal
 

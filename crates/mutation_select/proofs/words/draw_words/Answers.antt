@@ -1,5 +1,4 @@
-use Rattle.std.proofs.Common.{rules}
-use Rattle.mutation_select.specs.Draws.{generator}
+use Rattle.mutation_select.proofs.Common.{rules, generator}
 use Rattle.mutation_select.proofs.words.draw_words.Goals as goal
 
 pub loop-number-init : goal.loop-number-init

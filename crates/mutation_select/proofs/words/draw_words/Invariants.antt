@@ -1,5 +1,4 @@
-use Rattle.std.proofs.Common.{◌≡◌, ◌++◌, drop, length}
-use Rattle.mutation_select.specs.Draws.{drawn, generator}
+use Rattle.mutation_select.proofs.Common.{◌≡◌, ◌++◌, drop, drawn, generator}
 use Rattle.mutation_select.proofs.words.draw_words.Given as goal
 
 abbrev pub invariant-loop-number : goal.invariant-loop-number

@@ -1,5 +1,4 @@
-use Rattle.std.proofs.Common.{◌≡◌, ◌+◌, drop}
-use Rattle.mutation_sites.specs.Counts.{cells_count}
+use Rattle.mutation_sites.proofs.Common.{◌≡◌, ◌+◌, drop, cells_count}
 use Rattle.mutation_sites.proofs.count.cells_count.Given as goal
 
 abbrev pub invariant-loop-cell : goal.invariant-loop-cell

@@ -1,5 +1,4 @@
-use Rattle.std.proofs.Common.{◌≡◌, ◌+◌, drop}
-use Rattle.mutation_sites.specs.Counts.{ports_count}
+use Rattle.mutation_sites.proofs.Common.{◌≡◌, ◌+◌, drop, ports_count}
 use Rattle.mutation_sites.proofs.count.ports_count.Given as goal
 
 abbrev pub invariant-loop-bits : goal.invariant-loop-bits

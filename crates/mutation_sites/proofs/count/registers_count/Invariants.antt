@@ -1,5 +1,4 @@
-use Rattle.std.proofs.Common.{◌≡◌, ◌+◌, drop}
-use Rattle.mutation_sites.specs.Counts.{registers_count}
+use Rattle.mutation_sites.proofs.Common.{◌≡◌, ◌+◌, drop, registers_count}
 use Rattle.mutation_sites.proofs.count.registers_count.Given as goal
 
 abbrev pub invariant-loop-register : goal.invariant-loop-register

@@ -1,6 +1,4 @@
-use Rattle.std.proofs.Common.{◌≡◌, ap, ◌∙◌, arith}
-use Rattle.netlist_core.specs.declared.raw.RawNetlist.{RawNetlist}
-use Rattle.mutation_sites.specs.Counts.{cells_count, registers_count}
+use Rattle.mutation_sites.proofs.Common.{◌≡◌, ap, ◌∙◌, arith, RawNetlist, cells_count, registers_count}
 use Rattle.mutation_sites.proofs.Totals.{length-sites, cells-total, registers-total}
 use Rattle.mutation_sites.proofs.count.site_count.Goals as goal
 

@@ -1,4 +1,4 @@
-use Rattle.std.proofs.Common.{refl}
+use Rattle.mutation_sites.proofs.Common.{refl}
 use Rattle.mutation_sites.proofs.laws.ports_have_their_sites.Goals as goal
 
 pub returns-clause-one : goal.returns-clause-one

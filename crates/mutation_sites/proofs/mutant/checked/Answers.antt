@@ -1,4 +1,4 @@
-use Rattle.std.proofs.Common.{◌≡◌, true, false, sym, ◌∙◌}
+use Rattle.mutation_sites.proofs.Common.{◌≡◌, true, false, sym, ◌∙◌}
 use Rattle.mutation_sites.proofs.mutant.checked.Goals as goal
 use Rattle.mutation_sites.proofs.mutant.checked.Goals.{in-Memory, in_default}
 

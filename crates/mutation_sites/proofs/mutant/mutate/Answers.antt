@@ -1,12 +1,7 @@
-use Rattle.std.proofs.Common.{◌≡◌, Ok, Err, refl, sym, subst, ◌∙◌}
-use Rattle.std.specs.Prelude.{IfOk}
+use Rattle.mutation_sites.proofs.Common.{◌≡◌, Ok, Err, refl, sym, subst, ◌∙◌, IfOk, RawNetlist, IsFormed, IsRefused, Plan, RunsAlike, HasEachRun, HasOneMore, HasSameNames, HasSameShapes, IsMutant}
 use Rattle.std.specs.declared.result.Result.{Result}
-use Rattle.netlist_core.specs.declared.raw.RawNetlist.{RawNetlist}
 use Rattle.netlist_core.specs.declared.netlist.NetError.{NetError}
 use Rattle.netlist_core.specs.declared.netlist.NetError.TheVariants.{Memory}
-use Rattle.netlist_core.specs.Checked.{IsFormed, IsRefused, Plan}
-use Rattle.mutation_sites.specs.Mutants.{RunsAlike, HasEachRun, HasOneMore, HasSameNames, HasSameShapes}
-use Rattle.mutation_sites.specs.Wiring.{IsMutant}
 use Rattle.mutation_sites.proofs.Alike.{runs-alike}
 use Rattle.mutation_sites.proofs.Back.{has-each-run}
 use Rattle.mutation_sites.proofs.More.{has-one-more, has-same-names}

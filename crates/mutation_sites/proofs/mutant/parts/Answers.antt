@@ -1,15 +1,6 @@
-use Rattle.std.proofs.Common.{◌≡◌, ℕ, List, [], ◌∷◌, ◌++◌, map, rules, refl, ap, ◌∙◌}
-use Rattle.mcy_base.specs.declared.span.Span.{Span}
-use Rattle.netlist_core.specs.declared.bit.Bit.{Bit}
+use Rattle.mutation_sites.proofs.Common.{◌≡◌, ℕ, List, [], ◌∷◌, ◌++◌, map, rules, refl, ap, ◌∙◌, Span, Bit, RawNetlist, Outputs, Site, Readers, Change, Nothing, change_of, readers_at, port_at}
+use Rattle.mutation_sites.proofs.Common.{port_connected, cells_connected, registers_connected, new_bit, new_cells, bit_of, control_of, span_at, mutant_of}
 use Rattle.netlist_core.specs.declared.port.Port as port
-use Rattle.netlist_core.specs.declared.raw.RawNetlist.{RawNetlist}
-use Rattle.netlist_core.specs.Runs.{Outputs}
-use Rattle.mutation_sites.specs.declared.site.Site.{Site}
-use Rattle.mutation_sites.specs.declared.readers.Readers.{Readers}
-use Rattle.mutation_sites.specs.declared.readers.Change.{Change}
-use Rattle.mutation_sites.specs.declared.readers.Change.TheVariants.{Nothing}
-use Rattle.mutation_sites.specs.Mutants.{change_of, readers_at, port_at}
-use Rattle.mutation_sites.specs.Wiring.{port_connected, cells_connected, registers_connected, new_bit, new_cells, bit_of, control_of, span_at, mutant_of}
 use Rattle.mutation_sites.proofs.mutant.parts.Goals as goal
 
 inputs-same : (new : Bit) (ports : List port.Port) → map (port_connected Nothing new) ports ≡ ports

@@ -1,7 +1,4 @@
-use Rattle.std.proofs.Common.{◌≡◌, ◌++◌, drop}
-use Rattle.std.specs.Prelude.{filter}
-use Rattle.mutation_sites.specs.Modes.{is_in}
-use Rattle.mutation_sites.specs.Sites.{bit_sites}
+use Rattle.mutation_sites.proofs.Common.{◌≡◌, ◌++◌, drop, filter, is_in, bit_sites}
 use Rattle.mutation_sites.proofs.site_list.add_bit.Given as goal
 
 abbrev pub invariant-loop-mode : goal.invariant-loop-mode

@@ -1,5 +1,4 @@
-use Rattle.std.proofs.Common.{◌≡◌, ◌++◌, drop}
-use Rattle.mutation_sites.specs.Sites.{cells_sites}
+use Rattle.mutation_sites.proofs.Common.{◌≡◌, ◌++◌, drop, cells_sites}
 use Rattle.mutation_sites.proofs.site_list.add_cells.Given as goal
 
 abbrev pub invariant-loop-number : goal.invariant-loop-number

@@ -1,6 +1,4 @@
-use Rattle.std.proofs.Common.{◌≡◌, ◌++◌, ◌∙◌, rules, arith}
-use Rattle.mutation_sites.specs.Modes.{modes_of}
-use Rattle.mutation_sites.specs.Sites.{bit_sites}
+use Rattle.mutation_sites.proofs.Common.{◌≡◌, ◌++◌, ◌∙◌, rules, arith, modes_of, bit_sites}
 use Rattle.mutation_sites.proofs.Listed.{bits_sites-more}
 use Rattle.mutation_sites.proofs.site_list.add_port.Goals as goal
 

@@ -1,6 +1,4 @@
-use Rattle.std.proofs.Common.{◌≡◌, ◌++◌, drop}
-use Rattle.mutation_sites.specs.Modes.{modes_of}
-use Rattle.mutation_sites.specs.Sites.{bits_sites}
+use Rattle.mutation_sites.proofs.Common.{◌≡◌, ◌++◌, drop, modes_of, bits_sites}
 use Rattle.mutation_sites.proofs.site_list.add_port.Given as goal
 
 abbrev pub invariant-loop-bit : goal.invariant-loop-bit

@@ -1,5 +1,4 @@
-use Rattle.std.proofs.Common.{◌≡◌, ◌++◌, drop}
-use Rattle.mutation_sites.specs.Sites.{ports_sites}
+use Rattle.mutation_sites.proofs.Common.{◌≡◌, ◌++◌, drop, ports_sites}
 use Rattle.mutation_sites.proofs.site_list.add_ports.Given as goal
 
 abbrev pub invariant-loop-port : goal.invariant-loop-port

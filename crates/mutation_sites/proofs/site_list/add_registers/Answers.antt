@@ -1,4 +1,4 @@
-use Rattle.std.proofs.Common.{◌<◌, length, ap, rules, arith}
+use Rattle.mutation_sites.proofs.Common.{◌<◌, length, ap, rules, arith}
 use Rattle.mutation_sites.proofs.Ports.{narrow-register}
 use Rattle.mutation_sites.proofs.Totals.{registers-number}
 use Rattle.mutation_sites.proofs.site_list.add_registers.Goals as goal

@@ -1,5 +1,4 @@
-use Rattle.std.proofs.Common.{◌≡◌, ◌++◌, drop}
-use Rattle.mutation_sites.specs.Sites.{registers_sites}
+use Rattle.mutation_sites.proofs.Common.{◌≡◌, ◌++◌, drop, registers_sites}
 use Rattle.mutation_sites.proofs.site_list.add_registers.Given as goal
 
 abbrev pub invariant-loop-number : goal.invariant-loop-number

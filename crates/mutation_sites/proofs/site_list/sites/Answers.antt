@@ -1,7 +1,4 @@
-use Rattle.std.proofs.Common.{◌≡◌, rules, sym, subst}
-use Rattle.std.specs.List.{All}
-use Rattle.mutation_sites.specs.Mutants.{IsSite}
-use Rattle.mutation_sites.specs.Sites.{sites}
+use Rattle.mutation_sites.proofs.Common.{◌≡◌, rules, sym, subst, All, IsSite, sites}
 use Rattle.mutation_sites.proofs.Placed.{sites-placed}
 use Rattle.mutation_sites.proofs.site_list.sites.Goals as goal
 

@@ -1,4 +1,4 @@
-use Rattle.std.proofs.Common.{arith}
+use Rattle.mutation_sites.proofs.Common.{arith}
 use Rattle.mutation_sites.proofs.Pigeons.{few-nets}
 use Rattle.mutation_sites.proofs.unused.first_unused.Goals as goal
 

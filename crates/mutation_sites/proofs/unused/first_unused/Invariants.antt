@@ -1,5 +1,4 @@
-use Rattle.std.proofs.Common.{ℕ, ◌-◌, ◌<◌, ◌≤◌}
-use Rattle.netlist_core.specs.Drivers.{drivers}
+use Rattle.mutation_sites.proofs.Common.{ℕ, ◌-◌, ◌<◌, ◌≤◌, drivers}
 use Rattle.mutation_sites.proofs.unused.first_unused.Given as goal
 
 abbrev pub invariant-loop-raw : goal.invariant-loop-raw

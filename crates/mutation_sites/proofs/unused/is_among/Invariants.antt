@@ -1,5 +1,4 @@
-use Rattle.std.proofs.Common.{◌≡◌, drop}
-use Rattle.netlist_core.specs.Drivers.{times}
+use Rattle.mutation_sites.proofs.Common.{◌≡◌, drop, times}
 use Rattle.mutation_sites.proofs.unused.is_among.Given as goal
 
 abbrev pub invariant-loop-bit : goal.invariant-loop-bit

@@ -1,6 +1,4 @@
-use Rattle.std.proofs.Common.{◌≡◌, drop}
-use Rattle.netlist_core.specs.Runs.{bits_at}
-use Rattle.netlist_core.specs.Drivers.{times_at}
+use Rattle.mutation_sites.proofs.Common.{◌≡◌, drop, bits_at, times_at}
 use Rattle.mutation_sites.proofs.unused.is_at_port.Given as goal
 
 abbrev pub invariant-loop-port : goal.invariant-loop-port

@@ -1,6 +1,4 @@
-use Rattle.std.proofs.Common.{◌≡◌, drop}
-use Rattle.netlist_core.specs.Runs.{q_bits}
-use Rattle.netlist_core.specs.Drivers.{times_at}
+use Rattle.mutation_sites.proofs.Common.{◌≡◌, drop, q_bits, times_at}
 use Rattle.mutation_sites.proofs.unused.is_at_q.Given as goal
 
 abbrev pub invariant-loop-register : goal.invariant-loop-register

@@ -1,5 +1,4 @@
-use Rattle.std.proofs.Common.{◌≡◌, drop}
-use Rattle.netlist_core.specs.Drivers.{times_at, y_bits}
+use Rattle.mutation_sites.proofs.Common.{◌≡◌, drop, times_at, y_bits}
 use Rattle.mutation_sites.proofs.unused.is_at_y.Given as goal
 
 abbrev pub invariant-loop-cell : goal.invariant-loop-cell

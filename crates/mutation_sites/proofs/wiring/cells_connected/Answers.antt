@@ -1,5 +1,5 @@
-use Rattle.std.proofs.Common.{◌≡◌, rules, slice_get, Some}
-use Rattle.mutation_sites.proofs.Ports.{cell-there, few-there}
+use Rattle.mutation_sites.proofs.Common.{◌≡◌, rules, slice_get, Some, cell-there}
+use Rattle.mutation_sites.proofs.Ports.{few-there}
 use Rattle.mutation_sites.proofs.wiring.cells_connected.Goals as goal
 
 pub cell_connected-requires : goal.cell_connected-requires

@@ -1,5 +1,4 @@
-use Rattle.std.proofs.Common.{◌≡◌, ◌++◌, drop}
-use Rattle.mutation_sites.specs.Wiring.{cells_connected}
+use Rattle.mutation_sites.proofs.Common.{◌≡◌, ◌++◌, drop, cells_connected}
 use Rattle.mutation_sites.proofs.wiring.cells_connected.Given as goal
 
 abbrev pub invariant-loop-number : goal.invariant-loop-number

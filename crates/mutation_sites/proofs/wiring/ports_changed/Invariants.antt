@@ -1,5 +1,4 @@
-use Rattle.std.proofs.Common.{◌≡◌, map, take}
-use Rattle.mutation_sites.specs.Wiring.{port_connected}
+use Rattle.mutation_sites.proofs.Common.{◌≡◌, map, take, port_connected}
 use Rattle.mutation_sites.proofs.wiring.ports_changed.Given as goal
 
 abbrev pub invariant-loop-port : goal.invariant-loop-port

@@ -1,5 +1,4 @@
-use Rattle.std.proofs.Common.{◌≡◌, ◌++◌, drop}
-use Rattle.mutation_sites.specs.Wiring.{ports_connected}
+use Rattle.mutation_sites.proofs.Common.{◌≡◌, ◌++◌, drop, ports_connected}
 use Rattle.mutation_sites.proofs.wiring.ports_connected.Given as goal
 
 abbrev pub invariant-loop-port : goal.invariant-loop-port

@@ -1,4 +1,4 @@
-use Rattle.std.proofs.Common.{◌<◌, length, rules, arith}
+use Rattle.mutation_sites.proofs.Common.{◌<◌, length, rules, arith}
 use Rattle.mutation_sites.proofs.Totals.{registers-number}
 use Rattle.mutation_sites.proofs.wiring.registers_connected.Goals as goal
 

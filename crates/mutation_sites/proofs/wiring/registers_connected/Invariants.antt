@@ -1,5 +1,4 @@
-use Rattle.std.proofs.Common.{◌≡◌, ◌++◌, drop}
-use Rattle.mutation_sites.specs.Wiring.{registers_connected}
+use Rattle.mutation_sites.proofs.Common.{◌≡◌, ◌++◌, drop, registers_connected}
 use Rattle.mutation_sites.proofs.wiring.registers_connected.Given as goal
 
 abbrev pub invariant-loop-number : goal.invariant-loop-number

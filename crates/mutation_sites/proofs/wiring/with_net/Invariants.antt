@@ -1,5 +1,4 @@
-use Rattle.std.proofs.Common.{◌≡◌, ◌++◌, map, drop}
-use Rattle.mutation_sites.specs.Wiring.{replaced}
+use Rattle.mutation_sites.proofs.Common.{◌≡◌, ◌++◌, map, drop, replaced}
 use Rattle.mutation_sites.proofs.wiring.with_net.Given as goal
 
 abbrev pub invariant-loop-bit : goal.invariant-loop-bit

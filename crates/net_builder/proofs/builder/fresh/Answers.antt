@@ -1,4 +1,4 @@
-use Rattle.std.proofs.Common.{sym, add-one}
+use Rattle.net_builder.proofs.Common.{sym, add-one}
 use Rattle.net_builder.proofs.Parts.{fresh_step}
 use Rattle.net_builder.proofs.builder.fresh.Goals as goal
 

@@ -1,5 +1,4 @@
-use Rattle.std.proofs.Common.{◌≡◌}
-use Rattle.net_builder.specs.Building.{fresh_bits}
+use Rattle.net_builder.proofs.Common.{◌≡◌, fresh_bits}
 use Rattle.net_builder.proofs.builder.fresh.Given as goal
 
 abbrev pub invariant-loop-k : goal.invariant-loop-k

@@ -1,6 +1,4 @@
-use Rattle.std.proofs.Common.{◌≡◌, take}
-use Rattle.net_builder.specs.Finished.{all_led}
-use Rattle.net_builder.specs.Tracing.{known_of, end_in}
+use Rattle.net_builder.proofs.Common.{◌≡◌, take, all_led, known_of, end_in}
 use Rattle.net_builder.proofs.finishing.led_bits.Given as goal
 
 abbrev pub invariant-loop-bit : goal.invariant-loop-bit

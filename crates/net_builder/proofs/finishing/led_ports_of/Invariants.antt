@@ -1,6 +1,4 @@
-use Rattle.std.proofs.Common.{◌≡◌, map, take}
-use Rattle.net_builder.specs.Finished.{all_led}
-use Rattle.net_builder.specs.Tracing.{known_of, end_in}
+use Rattle.net_builder.proofs.Common.{◌≡◌, map, take, all_led, known_of, end_in}
 use Rattle.net_builder.proofs.finishing.led_ports_of.Given as goal
 
 abbrev pub invariant-loop-bits : goal.invariant-loop-bits

@@ -1,6 +1,4 @@
-use Rattle.std.proofs.Common.{◌≡◌, map, take}
-use Rattle.net_builder.specs.Finished.{led_register}
-use Rattle.net_builder.specs.Tracing.{known_of, end_in}
+use Rattle.net_builder.proofs.Common.{◌≡◌, map, take, led_register, known_of, end_in}
 use Rattle.net_builder.proofs.finishing.led_registers.Given as goal
 
 abbrev pub invariant-loop-register : goal.invariant-loop-register

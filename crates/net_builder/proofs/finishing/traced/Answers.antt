@@ -1,12 +1,5 @@
-use Rattle.std.proofs.Common.{◌≡◌, ◌≤◌, ◌↔◌, ◌⊎◌, ℕ, List, [], length, sym, ◌∙◌, subst}
-use Rattle.std.specs.List.{Contains}
-use Rattle.std.proofs.lemmas.Bool.Decides.{Decides-eqb}
-use Rattle.std.proofs.lemmas.List.{nil_from_length}
-use Rattle.netlist_core.specs.Checked.{IsFirst}
-use Rattle.net_builder.specs.declared.steps.Step.{Step}
-use Rattle.net_builder.specs.Finished.{LeadsTo, Follows, IsOnLoop}
-use Rattle.net_builder.specs.Stepping.{next_in}
-use Rattle.net_builder.specs.Tracing.{known_of, end_in}
+use Rattle.net_builder.proofs.Common.{◌≡◌, ◌≤◌, ◌↔◌, ◌⊎◌, ℕ, List, [], length, sym, ◌∙◌, subst, Contains, Decides-eqb, nil_from_length, IsFirst, Step, LeadsTo, Follows, IsOnLoop, next_in, known_of}
+use Rattle.net_builder.proofs.Common.{end_in}
 use Rattle.net_builder.proofs.Ending.{all_end, first_loop}
 use Rattle.net_builder.proofs.finishing.traced.Goals as goal
 

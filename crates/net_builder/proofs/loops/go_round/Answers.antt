@@ -1,8 +1,4 @@
-use Rattle.std.proofs.Common.{◌≡◌, ℕ, true, false, set, inl, inr, sym, ◌∙◌, subst, arith}
-use Rattle.net_builder.specs.declared.steps.Step.TheVariants.{On}
-use Rattle.net_builder.specs.Finished.{IsOnLoop}
-use Rattle.net_builder.specs.Stepping.{next_in}
-use Rattle.net_builder.specs.Rounds.{seen_in, IsRound}
+use Rattle.net_builder.proofs.Common.{◌≡◌, ℕ, true, false, set, inl, inr, sym, ◌∙◌, subst, arith, On, IsOnLoop, next_in, seen_in, IsRound}
 use Rattle.net_builder.proofs.Following.{loop_next}
 use Rattle.net_builder.proofs.Circling.{seen_inside, set_unseen, seen_here, seen_stays, round_on, least_loop}
 use Rattle.net_builder.proofs.loops.go_round.Goals as goal

@@ -1,7 +1,4 @@
-use Rattle.std.proofs.Common.{◌≡◌, ◌⊎◌, ℕ, true}
-use Rattle.net_builder.specs.Finished.{IsOnLoop}
-use Rattle.net_builder.specs.Stepping.{next_in}
-use Rattle.net_builder.specs.Rounds.{seen_in, IsRound}
+use Rattle.net_builder.proofs.Common.{◌≡◌, ◌⊎◌, ℕ, true, IsOnLoop, next_in, seen_in, IsRound}
 use Rattle.net_builder.proofs.Circling.{unseen}
 use Rattle.net_builder.proofs.loops.go_round.Given as goal
 

@@ -1,8 +1,4 @@
-use Rattle.std.proofs.Common.{◌≡◌, ◌<◌, ℕ, true, false, length, get_or, replicate, sym, ◌∙◌, ap, subst, arith}
-use Rattle.std.proofs.lemmas.List.Elements.{Contains-get_or}
-use Rattle.std.proofs.lemmas.List.{get_or_read}
-use Rattle.net_builder.specs.Stepping.{next_in}
-use Rattle.net_builder.specs.Rounds.{seen_in}
+use Rattle.net_builder.proofs.Common.{◌≡◌, ◌<◌, ℕ, true, false, length, get_or, replicate, sym, ◌∙◌, ap, subst, arith, Contains-get_or, get_or_read, next_in, seen_in}
 use Rattle.net_builder.proofs.Circling.{round_none, round_below}
 use Rattle.net_builder.proofs.loops.least_on_loop.Goals as goal
 

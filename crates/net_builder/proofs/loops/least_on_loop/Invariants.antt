@@ -1,7 +1,4 @@
-use Rattle.std.proofs.Common.{◌≡◌, ◌<◌, ℕ, true, slice_index_or}
-use Rattle.net_builder.specs.Finished.{IsOnLoop}
-use Rattle.net_builder.specs.Stepping.{next_in}
-use Rattle.net_builder.specs.Rounds.{seen_in, IsClosed}
+use Rattle.net_builder.proofs.Common.{◌≡◌, ◌<◌, ℕ, true, slice_index_or, IsOnLoop, next_in, seen_in, IsClosed}
 use Rattle.net_builder.proofs.loops.least_on_loop.Given as goal
 
 abbrev pub invariant-loop-net : goal.invariant-loop-net

@@ -1,4 +1,4 @@
-use Rattle.std.proofs.Common.{◌≡◌, ◌≤◌, ◌-◌, [], length, map, replicate}
+use Rattle.net_order.proofs.Common.{◌≡◌, ◌≤◌, ◌-◌, [], length, map, replicate}
 use Rattle.net_order.proofs.listing.empty_lists.Given as goal
 
 abbrev pub invariant-loop-alloc : goal.invariant-loop-alloc

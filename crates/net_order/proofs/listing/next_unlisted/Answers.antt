@@ -1,8 +1,5 @@
-use Rattle.std.proofs.Common.{◌≡◌, ℕ, ◌<◌, true, List, [], ◌∷◌, length, sym, subst, inl, inr, arith}
-use Rattle.std.specs.List.{Contains}
+use Rattle.net_order.proofs.Common.{◌≡◌, ℕ, ◌<◌, true, List, [], ◌∷◌, length, sym, subst, inl, inr, arith, Contains, Contains-push, Contains-append_left, All-contains, is_listed}
 use Rattle.std.proofs.lemmas.Grind.{common_steps}
-use Rattle.std.proofs.lemmas.List.Elements.{Contains-push, Contains-append_left, All-contains}
-use Rattle.net_order.specs.Listing.{is_listed}
 use Rattle.net_order.proofs.Last.{drop-last}
 use Rattle.net_order.proofs.listing.next_unlisted.Goals as goal
 

@@ -1,6 +1,4 @@
-use Rattle.std.proofs.Common.{◌≡◌, ℕ, true, ◌⊎◌, length}
-use Rattle.std.specs.List.{Contains}
-use Rattle.net_order.specs.Listing.{is_listed}
+use Rattle.net_order.proofs.Common.{◌≡◌, ℕ, true, ◌⊎◌, length, Contains, is_listed}
 use Rattle.net_order.proofs.listing.next_unlisted.Given as goal
 
 abbrev pub invariant-loop-d : goal.invariant-loop-d

@@ -1,8 +1,5 @@
-use Rattle.std.proofs.Common.{◌≡◌, ◌<◌, ◌+◌, ℕ, false, [], List, length, map, replicate, refl, sym, ap, ◌∙◌, subst, inl, inr, arith}
-use Rattle.std.proofs.lemmas.List.{length-map, length-replicate, length_push, nil_from_length, get_or_read}
-use Rattle.net_order.specs.Orders.{row_of}
-use Rattle.net_order.specs.Listing.{none_left, is_listed}
-use Rattle.net_order.specs.Reaching.{Trail, trail_of, after_nodes, unfound, IsTrail}
+use Rattle.net_order.proofs.Common.{◌≡◌, ◌<◌, ◌+◌, ℕ, false, [], List, length, map, replicate, refl, sym, ap, ◌∙◌, subst, inl, inr, arith, length-map, length-replicate, length_push, nil_from_length}
+use Rattle.net_order.proofs.Common.{get_or_read, row_of, none_left, is_listed, Trail, trail_of, after_nodes, unfound, IsTrail}
 use Rattle.net_order.proofs.Chains.{reached-inside}
 use Rattle.net_order.proofs.Trails.{row-all, trail-start, trail-look, trail-pop, popped-found, look-size, trail-end, popped-none}
 use Rattle.net_order.proofs.loops.is_on_loop.Goals as goal

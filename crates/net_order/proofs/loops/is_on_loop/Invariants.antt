@@ -1,6 +1,4 @@
-use Rattle.std.proofs.Common.{◌+◌, length, map}
-use Rattle.net_order.specs.Listing.{none_left}
-use Rattle.net_order.specs.Reaching.{trail_of, unfound, IsTrail}
+use Rattle.net_order.proofs.Common.{◌+◌, length, map, none_left, trail_of, unfound, IsTrail}
 use Rattle.net_order.proofs.loops.is_on_loop.Given as goal
 
 abbrev pub invariant-loop-next : goal.invariant-loop-next

@@ -1,7 +1,4 @@
-use Rattle.std.proofs.Common.{◌≡◌, ℕ, map, sym, ◌∙◌, subst, inl, inr, arith}
-use Rattle.std.proofs.lemmas.Bool.{false≢true, cases_eq}
-use Rattle.std.proofs.lemmas.List.{length-map}
-use Rattle.net_order.specs.Orders.{Reads, IsOnLoop}
+use Rattle.net_order.proofs.Common.{◌≡◌, ℕ, map, sym, ◌∙◌, subst, inl, inr, arith, false≢true, cases_eq, length-map, Reads, IsOnLoop}
 use Rattle.net_order.proofs.Chains.{loop-inside}
 use Rattle.net_order.proofs.loops.least_on_loop.Goals as goal
 

@@ -1,5 +1,4 @@
-use Rattle.std.proofs.Common.{ℕ, ◌<◌, map}
-use Rattle.net_order.specs.Orders.{Reads, IsOnLoop}
+use Rattle.net_order.proofs.Common.{ℕ, ◌<◌, map, Reads, IsOnLoop}
 use Rattle.net_order.proofs.loops.least_on_loop.Given as goal
 
 abbrev pub invariant-loop-node : goal.invariant-loop-node

@@ -1,4 +1,4 @@
-use Rattle.std.proofs.Common.{◌∙◌}
+use Rattle.net_order.proofs.Common.{◌∙◌}
 use Rattle.net_order.proofs.Stages.{at_place}
 use Rattle.net_order.proofs.loops.row.Goals as goal
 

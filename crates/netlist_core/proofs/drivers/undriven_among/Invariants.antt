@@ -1,5 +1,4 @@
-use Rattle.std.proofs.Common.{◌≡◌, drop}
-use Rattle.netlist_core.specs.Marking.{driver_at, undriven_bits}
+use Rattle.netlist_core.proofs.Common.{◌≡◌, drop, driver_at, undriven_bits}
 use Rattle.netlist_core.proofs.drivers.undriven_among.Given as goal
 
 abbrev pub invariant-loop-bit : goal.invariant-loop-bit

@@ -1,5 +1,4 @@
-use Rattle.std.proofs.Common.{◌≡◌, drop}
-use Rattle.netlist_core.specs.Marking.{driver_at, undriven_cells}
+use Rattle.netlist_core.proofs.Common.{◌≡◌, drop, driver_at, undriven_cells}
 use Rattle.netlist_core.proofs.drivers.undriven_of_cells.Given as goal
 
 abbrev pub invariant-loop-cell : goal.invariant-loop-cell

@@ -1,6 +1,4 @@
-use Rattle.std.proofs.Common.{◌≡◌, drop}
-use Rattle.netlist_core.specs.Marking.{driver_at, undriven_at}
-use Rattle.netlist_core.specs.Runs.{bits_at}
+use Rattle.netlist_core.proofs.Common.{◌≡◌, drop, driver_at, undriven_at, bits_at}
 use Rattle.netlist_core.proofs.drivers.undriven_of_ports.Given as goal
 
 abbrev pub invariant-loop-port : goal.invariant-loop-port

@@ -1,6 +1,4 @@
-use Rattle.std.proofs.Common.{◌≡◌, drop}
-use Rattle.netlist_core.specs.Marking.{driver_at, undriven_at}
-use Rattle.netlist_core.specs.Runs.{d_bits}
+use Rattle.netlist_core.proofs.Common.{◌≡◌, drop, driver_at, undriven_at, d_bits}
 use Rattle.netlist_core.proofs.drivers.undriven_of_registers.Given as goal
 
 abbrev pub invariant-loop-register : goal.invariant-loop-register

@@ -1,5 +1,4 @@
-use Rattle.std.proofs.Common.{◌↔◌, drop}
-use Rattle.netlist_core.specs.Checked.{AllRegistersFit}
+use Rattle.netlist_core.proofs.Common.{◌↔◌, drop, AllRegistersFit}
 use Rattle.netlist_core.proofs.formed.all_fit.Given as goal
 
 abbrev pub invariant-loop-register : goal.invariant-loop-register

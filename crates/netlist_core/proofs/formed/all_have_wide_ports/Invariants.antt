@@ -1,5 +1,4 @@
-use Rattle.std.proofs.Common.{◌↔◌, drop}
-use Rattle.netlist_core.specs.Checked.{AllCellsWide}
+use Rattle.netlist_core.proofs.Common.{◌↔◌, drop, AllCellsWide}
 use Rattle.netlist_core.proofs.formed.all_have_wide_ports.Given as goal
 
 abbrev pub invariant-loop-cell : goal.invariant-loop-cell

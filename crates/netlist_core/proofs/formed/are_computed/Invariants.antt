@@ -1,6 +1,4 @@
-use Rattle.std.proofs.Common.{◌↔◌, drop}
-use Rattle.netlist_core.specs.Drivers.{y_bits}
-use Rattle.netlist_core.specs.Checked.{AllPortsNets}
+use Rattle.netlist_core.proofs.Common.{◌↔◌, drop, y_bits, AllPortsNets}
 use Rattle.netlist_core.proofs.formed.are_computed.Given as goal
 
 abbrev pub invariant-loop-cell : goal.invariant-loop-cell

@@ -1,6 +1,4 @@
-use Rattle.std.proofs.Common.{◌↔◌, drop}
-use Rattle.netlist_core.specs.Runs.{bits_at}
-use Rattle.netlist_core.specs.Checked.{AllPortsNets}
+use Rattle.netlist_core.proofs.Common.{◌↔◌, drop, bits_at, AllPortsNets}
 use Rattle.netlist_core.proofs.formed.are_entered.Given as goal
 
 abbrev pub invariant-loop-port : goal.invariant-loop-port

@@ -1,5 +1,4 @@
-use Rattle.std.proofs.Common.{◌↔◌, drop}
-use Rattle.netlist_core.specs.Checked.{AllNets}
+use Rattle.netlist_core.proofs.Common.{◌↔◌, drop, AllNets}
 use Rattle.netlist_core.proofs.formed.are_nets.Given as goal
 
 abbrev pub invariant-loop-bit : goal.invariant-loop-bit

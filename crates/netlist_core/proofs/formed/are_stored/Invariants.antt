@@ -1,6 +1,4 @@
-use Rattle.std.proofs.Common.{◌↔◌, drop}
-use Rattle.netlist_core.specs.Runs.{q_bits}
-use Rattle.netlist_core.specs.Checked.{AllPortsNets}
+use Rattle.netlist_core.proofs.Common.{◌↔◌, drop, q_bits, AllPortsNets}
 use Rattle.netlist_core.proofs.formed.are_stored.Given as goal
 
 abbrev pub invariant-loop-register : goal.invariant-loop-register

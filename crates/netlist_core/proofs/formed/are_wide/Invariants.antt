@@ -1,6 +1,4 @@
-use Rattle.std.proofs.Common.{◌↔◌, drop}
-use Rattle.netlist_core.specs.Runs.{bits_at}
-use Rattle.netlist_core.specs.Checked.{AllWide}
+use Rattle.netlist_core.proofs.Common.{◌↔◌, drop, bits_at, AllWide}
 use Rattle.netlist_core.proofs.formed.are_wide.Given as goal
 
 abbrev pub invariant-loop-port : goal.invariant-loop-port

@@ -1,5 +1,4 @@
-use Rattle.std.proofs.Common.{◌↔◌, drop}
-use Rattle.netlist_core.specs.Checked.{AllWide}
+use Rattle.netlist_core.proofs.Common.{◌↔◌, drop, AllWide}
 use Rattle.netlist_core.proofs.formed.has_wide_ports.Given as goal
 
 abbrev pub invariant-loop-port : goal.invariant-loop-port

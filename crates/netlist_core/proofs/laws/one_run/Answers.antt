@@ -1,9 +1,10 @@
 use Rattle.netlist_core.proofs.Solved.{has-one-run, same-shown, same-taken, settles}
-use Rattle.netlist_core.proofs.Unique.{orders-one}
+use Rattle.netlist_core.proofs.Common.{length, Reads}
+use Rattle.net_order.proofs.Unique.{orders-one}
 use Rattle.netlist_core.proofs.laws.one_run.Goals as goal
 
 pub returns-clause-order : goal.returns-clause-order
-returns-clause-order c = orders-one
+returns-clause-order c = λ netlist xs ys. orders-one (length netlist.cells) (Reads netlist) xs ys
 
 pub returns-clause-settles : goal.returns-clause-settles
 returns-clause-settles c = λ plan sight sound causal nets inputs state fit_in fit_state. settles plan.raw sound.formed sound.connected plan.order sound.order sight causal nets inputs state fit_in fit_state

@@ -1,6 +1,4 @@
-use Rattle.std.proofs.Common.{◌≡◌, ◌++◌, drop}
-use Rattle.netlist_core.specs.Marking.{driver_at}
-use Rattle.netlist_core.specs.Listing.{sources}
+use Rattle.netlist_core.proofs.Common.{◌≡◌, ◌++◌, drop, driver_at, sources}
 use Rattle.netlist_core.proofs.reads.add_sources.Given as goal
 
 abbrev pub invariant-loop-bit : goal.invariant-loop-bit

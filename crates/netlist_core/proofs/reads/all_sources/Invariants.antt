@@ -1,6 +1,4 @@
-use Rattle.std.proofs.Common.{◌≡◌, ◌++◌, map, drop}
-use Rattle.netlist_core.specs.Marking.{driver_at}
-use Rattle.netlist_core.specs.Listing.{all_sources}
+use Rattle.netlist_core.proofs.Common.{◌≡◌, ◌++◌, map, drop, driver_at, all_sources}
 use Rattle.netlist_core.proofs.reads.all_sources.Given as goal
 
 abbrev pub invariant-loop-cell : goal.invariant-loop-cell

@@ -1,6 +1,4 @@
-use Rattle.std.proofs.Common.{◌≡◌, ◌++◌, drop}
-use Rattle.netlist_core.specs.Marking.{driver_at}
-use Rattle.netlist_core.specs.Listing.{sources_at}
+use Rattle.netlist_core.proofs.Common.{◌≡◌, ◌++◌, drop, driver_at, sources_at}
 use Rattle.netlist_core.proofs.reads.sources_at.Given as goal
 
 abbrev pub invariant-loop-port : goal.invariant-loop-port

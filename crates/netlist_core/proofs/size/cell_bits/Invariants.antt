@@ -1,7 +1,4 @@
-use Rattle.std.proofs.Common.{◌≡◌, ◌+◌, ◌≤◌, ◌-◌, ◌^◌, drop}
-use Rattle.netlist_core.specs.Drivers.{y_bits}
-use Rattle.netlist_core.specs.Checked.{all_bits}
-use Rattle.netlist_core.specs.Sizes.{counted}
+use Rattle.netlist_core.proofs.Common.{◌≡◌, ◌+◌, ◌≤◌, ◌-◌, ◌^◌, drop, y_bits, all_bits, counted}
 use Rattle.netlist_core.proofs.size.cell_bits.Given as goal
 
 abbrev pub invariant-loop-cell : goal.invariant-loop-cell

@@ -1,7 +1,4 @@
-use Rattle.std.proofs.Common.{◌≡◌, ◌+◌, ◌≤◌, ◌-◌, ◌^◌, drop}
-use Rattle.netlist_core.specs.Runs.{bits_at}
-use Rattle.netlist_core.specs.Checked.{all_bits}
-use Rattle.netlist_core.specs.Sizes.{counted}
+use Rattle.netlist_core.proofs.Common.{◌≡◌, ◌+◌, ◌≤◌, ◌-◌, ◌^◌, drop, bits_at, all_bits, counted}
 use Rattle.netlist_core.proofs.size.port_bits.Given as goal
 
 abbrev pub invariant-loop-port : goal.invariant-loop-port

@@ -1,7 +1,4 @@
-use Rattle.std.proofs.Common.{◌≡◌, ◌+◌, ◌≤◌, ◌-◌, ◌^◌, drop}
-use Rattle.netlist_core.specs.Runs.{q_bits}
-use Rattle.netlist_core.specs.Checked.{all_bits}
-use Rattle.netlist_core.specs.Sizes.{counted}
+use Rattle.netlist_core.proofs.Common.{◌≡◌, ◌+◌, ◌≤◌, ◌-◌, ◌^◌, drop, q_bits, all_bits, counted}
 use Rattle.netlist_core.proofs.size.register_bits.Given as goal
 
 abbrev pub invariant-loop-register : goal.invariant-loop-register

@@ -1,8 +1,5 @@
-use Rattle.std.proofs.Common.{ℕ, ◌<◌, List, length, get_or, ap, subst, ◌∙◌, arith}
-use Rattle.netlist_gates.specs.NetLits.{lits_of}
-use Rattle.netlist_gates.proofs.Shaped.{cell-shape, cell-wide}
-use Rattle.netlist_gates.proofs.Ahead.{output-below}
-use Rattle.netlist_gates.proofs.Ordered.{ordered, cells-of, cell-read, cells-step, cells-many, same_err}
+use Rattle.netlist_gates.proofs.Common.{ℕ, ◌<◌, List, length, get_or, ap, subst, ◌∙◌, arith, lits_of, ordered, cells-of, cell-read, cell-wide, output-below}
+use Rattle.netlist_gates.proofs.Ordered.{cells-step, cells-many, same_err}
 use Rattle.netlist_gates.proofs.cells.add_cells.Goals as goal
 
 pub bounds-cells-number : goal.bounds-cells-number
@@ -18,7 +15,7 @@ add_cell-requires-clause-shape c =
     let n : ℕ = get_or c.order-order.result.now c.loop-i.i 0 in
     let cells = cells-of plan.raw c.raw.result.now c.as_slice-cells.result.now c.raw.ensures.value c.as_slice-cells.ensures in
     let here = ordered plan c.order-order.ensures.sound c.order-order.result.now c.loop-i.i c.order-order.ensures.value c.loop-i-test.true in
-    cell-shape plan c.order-order.ensures.sound n c.index-cells-number.result (cell-read plan.raw.cells c.as_slice-cells.result.now n c.index-cells-number.result cells here.0 c.index-cells-number.is)
+    c.order-order.ensures.sound.connected.driven.shaped.shapes n c.index-cells-number.result (cell-read plan.raw.cells c.as_slice-cells.result.now n c.index-cells-number.result cells here.0 c.index-cells-number.is)
 
 pub add_cell-requires-clause-wide : goal.add_cell-requires-clause-wide
 add_cell-requires-clause-wide c =

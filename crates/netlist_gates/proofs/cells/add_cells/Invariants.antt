@@ -1,6 +1,4 @@
-use Rattle.std.proofs.Common.{◌≡◌, ◌≤◌, length, drop}
-use Rattle.netlist_gates.specs.NetLits.{lits_of, AreWithin}
-use Rattle.netlist_gates.specs.Made.{with_cells}
+use Rattle.netlist_gates.proofs.Common.{◌≡◌, ◌≤◌, length, drop, lits_of, AreWithin, with_cells}
 use Rattle.netlist_gates.proofs.cells.add_cells.Given as goal
 
 abbrev pub invariant-loop-i : goal.invariant-loop-i

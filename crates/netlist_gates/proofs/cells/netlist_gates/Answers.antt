@@ -1,7 +1,4 @@
-use Rattle.std.proofs.Common.{◌≡◌, List, sym, ap, subst, ◌∙◌}
-use Rattle.gate_list.specs.declared.literal.GateLit.{GateLit}
-use Rattle.netlist_gates.specs.NetLits.{Lits, lits_of, AreWithin}
-use Rattle.netlist_gates.specs.Made.{netlist_made}
+use Rattle.netlist_gates.proofs.Common.{◌≡◌, List, sym, ap, subst, ◌∙◌, GateLit, Lits, lits_of, AreWithin, netlist_made}
 use Rattle.netlist_gates.proofs.Solving.{free_lits-within, made_as, made-told, solves-told, within-told, grows-told}
 use Rattle.netlist_gates.proofs.cells.netlist_gates.Goals as goal
 

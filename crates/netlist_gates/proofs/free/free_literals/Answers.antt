@@ -1,11 +1,4 @@
-use Rattle.std.proofs.Common.{rules, ◌≡◌, ◌+◌, ℕ, List, length, ap, ◌∙◌}
-use Rattle.netlist_core.specs.declared.raw.RawNetlist.{RawNetlist}
-use Rattle.netlist_core.specs.declared.port.Port.{Port}
-use Rattle.netlist_core.specs.declared.port.Register.{Register}
-use Rattle.netlist_core.specs.Runs.{bits_at, q_bits}
-use Rattle.netlist_core.specs.Checked.{all_bits}
-use Rattle.gate_list.specs.declared.literal.GateLit.{GateLit}
-use Rattle.netlist_gates.specs.NetLits.{Lits, lits_of, no_lits, laid_free}
+use Rattle.netlist_gates.proofs.Common.{rules, ◌≡◌, ◌+◌, ℕ, List, length, ap, ◌∙◌, RawNetlist, Port, Register, bits_at, q_bits, all_bits, GateLit, Lits, lits_of, no_lits, laid_free}
 use Rattle.netlist_gates.proofs.Ahead.{inputs-below, registers-below, zeros-none}
 use Rattle.netlist_gates.proofs.free.free_literals.Goals as goal
 

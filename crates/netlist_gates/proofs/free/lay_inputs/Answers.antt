@@ -1,8 +1,4 @@
-use Rattle.std.proofs.Common.{◌+◌, List, length, refl, ap, ◌∙◌, arith}
-use Rattle.netlist_core.specs.declared.bit.Bit.{Bit}
-use Rattle.netlist_core.specs.declared.port.Port.{Port}
-use Rattle.netlist_core.specs.Runs.{bits_at}
-use Rattle.netlist_gates.specs.NetLits.{lits_of, laid_lits, variables}
+use Rattle.netlist_gates.proofs.Common.{◌+◌, List, length, refl, ap, ◌∙◌, arith, Bit, Port, bits_at, lits_of, laid_lits, variables}
 use Rattle.netlist_gates.proofs.Ahead.{ahead-begun, ahead-port, port-laid}
 use Rattle.netlist_gates.proofs.free.lay_inputs.Goals as goal
 

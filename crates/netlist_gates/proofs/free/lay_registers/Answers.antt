@@ -1,8 +1,4 @@
-use Rattle.std.proofs.Common.{◌+◌, List, length, refl, ap, ◌∙◌, arith}
-use Rattle.netlist_core.specs.declared.bit.Bit.{Bit}
-use Rattle.netlist_core.specs.declared.port.Register.{Register}
-use Rattle.netlist_core.specs.Runs.{q_bits}
-use Rattle.netlist_gates.specs.NetLits.{lits_of, laid_lits, variables}
+use Rattle.netlist_gates.proofs.Common.{◌+◌, List, length, refl, ap, ◌∙◌, arith, Bit, Register, q_bits, lits_of, laid_lits, variables}
 use Rattle.netlist_gates.proofs.Ahead.{ahead-begun, ahead-register, register-laid}
 use Rattle.netlist_gates.proofs.free.lay_registers.Goals as goal
 

@@ -1,6 +1,4 @@
-use Rattle.std.proofs.Common.{◌≡◌, length, drop}
-use Rattle.netlist_core.specs.Runs.{q_bits}
-use Rattle.netlist_gates.specs.NetLits.{lits_of}
+use Rattle.netlist_gates.proofs.Common.{◌≡◌, length, drop, q_bits, lits_of}
 use Rattle.netlist_gates.proofs.Ahead.{LaidAhead}
 use Rattle.netlist_gates.proofs.free.lay_registers.Given as goal
 

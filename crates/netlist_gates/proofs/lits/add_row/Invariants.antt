@@ -1,5 +1,4 @@
-use Rattle.std.proofs.Common.{◌≡◌, ◌++◌, take}
-use Rattle.netlist_gates.specs.NetLits.{lits_of, bits_lits}
+use Rattle.netlist_gates.proofs.Common.{◌≡◌, ◌++◌, take, lits_of, bits_lits}
 use Rattle.netlist_gates.proofs.lits.add_row.Given as goal
 
 abbrev pub invariant-loop-bit : goal.invariant-loop-bit

@@ -1,5 +1,4 @@
-use Rattle.std.proofs.Common.{◌≡◌, take}
-use Rattle.netlist_gates.specs.NetLits.{lits_of, ports_lits}
+use Rattle.netlist_gates.proofs.Common.{◌≡◌, take, lits_of, ports_lits}
 use Rattle.netlist_gates.proofs.lits.rows_at.Given as goal
 
 abbrev pub invariant-loop-port : goal.invariant-loop-port

@@ -1,6 +1,4 @@
-use Rattle.std.proofs.Common.{◌≡◌, ℕ, ◌<◌}
-use Rattle.std.specs.Prelude.{slice_get}
-use Rattle.pair_gates.specs.Matching.{ports_named}
+use Rattle.pair_gates.proofs.Common.{◌≡◌, ℕ, ◌<◌, slice_get, ports_named}
 use Rattle.pair_gates.proofs.matching.first_port.Given as goal
 
 abbrev pub invariant-loop-place : goal.invariant-loop-place

@@ -1,6 +1,4 @@
-use Rattle.std.proofs.Common.{◌≡◌, ℕ, ◌<◌}
-use Rattle.std.specs.Prelude.{slice_get}
-use Rattle.pair_gates.specs.Matching.{registers_named}
+use Rattle.pair_gates.proofs.Common.{◌≡◌, ℕ, ◌<◌, slice_get, registers_named}
 use Rattle.pair_gates.proofs.matching.first_register.Given as goal
 
 abbrev pub invariant-loop-place : goal.invariant-loop-place

@@ -1,7 +1,4 @@
-use Rattle.std.proofs.Common.{◌++◌, List, ap, ◌∙◌}
-use Rattle.netlist_core.specs.declared.bit.Bit.{Bit}
-use Rattle.netlist_core.specs.declared.port.Register.{Register}
-use Rattle.netlist_gates.specs.NetLits.{lits_of, bits_lits}
+use Rattle.pair_gates.proofs.Common.{◌++◌, List, ap, ◌∙◌, Bit, Register, lits_of, bits_lits}
 use Rattle.pair_gates.proofs.Reading.{next-read}
 use Rattle.pair_gates.proofs.pair.add_next.Goals as goal
 

@@ -1,6 +1,4 @@
-use Rattle.std.proofs.Common.{◌≡◌, drop}
-use Rattle.netlist_core.specs.Runs.{d_bits}
-use Rattle.netlist_gates.specs.NetLits.{lits_of}
+use Rattle.pair_gates.proofs.Common.{◌≡◌, drop, d_bits, lits_of}
 use Rattle.pair_gates.proofs.Reading.{ahead}
 use Rattle.pair_gates.proofs.pair.add_next.Given as goal
 

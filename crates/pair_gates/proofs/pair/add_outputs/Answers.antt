@@ -1,7 +1,4 @@
-use Rattle.std.proofs.Common.{◌++◌, List, ap, ◌∙◌}
-use Rattle.netlist_core.specs.declared.bit.Bit.{Bit}
-use Rattle.netlist_core.specs.declared.port.Port.{Port}
-use Rattle.netlist_gates.specs.NetLits.{lits_of, bits_lits}
+use Rattle.pair_gates.proofs.Common.{◌++◌, List, ap, ◌∙◌, Bit, Port, lits_of, bits_lits}
 use Rattle.pair_gates.proofs.Reading.{output-read}
 use Rattle.pair_gates.proofs.pair.add_outputs.Goals as goal
 

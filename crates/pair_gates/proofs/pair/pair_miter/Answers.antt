@@ -1,15 +1,5 @@
-use Rattle.std.proofs.Common.{◌≡◌, ◌↔◌, List, length, ap, subst, ◌∙◌, arith}
-use Rattle.clause_store.specs.Clauses.{Values, IsModel}
-use Rattle.netlist_core.specs.declared.raw.RawNetlist.{RawNetlist}
-use Rattle.netlist_core.specs.Checked.{Plan, free_bits}
-use Rattle.gate_list.specs.declared.literal.GateLit.{GateLit}
-use Rattle.gate_list.specs.Gates.{Gates, count, Hold}
-use Rattle.gate_words.specs.Rows.{MadeRow}
-use Rattle.gate_words.proofs.Growing.{grown-length}
-use Rattle.gate_clauses.specs.Encoding.{IsSome, miter_clauses}
-use Rattle.netlist_gates.specs.NetLits.{Lits, lits_of, bits_lits}
-use Rattle.netlist_gates.proofs.Within.{within-later}
-use Rattle.pair_gates.specs.Copies.{step_bits, pair_row}
+use Rattle.pair_gates.proofs.Common.{◌≡◌, ◌↔◌, List, length, ap, subst, ◌∙◌, arith, Values, IsModel, RawNetlist, Plan, free_bits, GateLit, Gates, count, Hold, MadeRow, grown-length, IsSome}
+use Rattle.pair_gates.proofs.Common.{miter_clauses, Lits, lits_of, bits_lits, within-later, step_bits, pair_row}
 use Rattle.pair_gates.proofs.Widths.{free-bits-same}
 use Rattle.pair_gates.proofs.Pairing.{none_of, row_as, row-is, first-many, refused-err, rows-same, row-few, row-within, tell-row}
 use Rattle.pair_gates.proofs.pair.pair_miter.Goals as goal

@@ -1,4 +1,4 @@
-use Rattle.std.proofs.Common.{length}
+use Rattle.pair_gates.proofs.Common.{length}
 use Rattle.pair_gates.proofs.weights.+greatest.Given as goal
 
 abbrev pub decreases-greatest : goal.decreases-greatest

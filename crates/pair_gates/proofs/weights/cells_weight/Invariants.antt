@@ -1,7 +1,5 @@
-use Rattle.std.proofs.Common.{◌≡◌, ◌+◌, ◌≤◌, ◌-◌, ◌^◌, drop}
-use Rattle.netlist_core.specs.Checked.{AllCellsWide}
+use Rattle.pair_gates.proofs.Common.{◌≡◌, ◌+◌, ◌≤◌, ◌-◌, ◌^◌, drop, AllCellsWide, cells_weight}
 use Rattle.netlist_core.specs.Sizes.{counted}
-use Rattle.pair_gates.specs.Weights.{cells_weight}
 use Rattle.pair_gates.proofs.weights.cells_weight.Given as goal
 
 abbrev pub invariant-loop-cell : goal.invariant-loop-cell

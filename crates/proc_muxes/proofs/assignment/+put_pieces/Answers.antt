@@ -1,8 +1,4 @@
-use Rattle.std.proofs.Common.{◌-◌, List, length, take, drop, refl, subst, rules}
-use Rattle.std.proofs.lemmas.Result.{on_ok_weaker}
-use Rattle.proc_muxes.specs.declared.piece.Piece.{Piece}
-use Rattle.proc_muxes.specs.Pieces.{AreHeldPieces, AreFitPieces}
-use Rattle.proc_muxes.specs.Working.{work}
+use Rattle.proc_muxes.proofs.Common.{◌-◌, List, length, take, drop, refl, subst, rules, on_ok_weaker, Piece, AreHeldPieces, AreFitPieces, work}
 use Rattle.proc_muxes.proofs.Bits.{below-take}
 use Rattle.proc_muxes.proofs.Frames.{nets-added}
 use Rattle.proc_muxes.proofs.Piecing.{piece-later}

@@ -1,17 +1,5 @@
-use Rattle.std.proofs.Common.{◌∙◌, ap, sym, subst, List, [], ◌+◌, length}
-use Rattle.netlist_core.specs.declared.bit.Bit.{Bit}
-use Rattle.vlog_meaning.specs.Scopes.{names_of}
-use Rattle.vlog_meaning.specs.Senses.{sense}
-use Rattle.vlog_effects.specs.LeftSides.{parts_of, parts_width}
-use Rattle.vlog_effects.specs.Steps.{Assign, Done, assigning}
-use Rattle.net_builder.specs.Building.{AllBelow}
-use Rattle.net_builder.specs.Refusals.{IsShort}
-use Rattle.elab_expr.proofs.Growing.{signals_kept}
-use Rattle.net_builder.proofs.Handed.{same_err}
-use Rattle.proc_muxes.specs.declared.piece.Piece.{Piece}
-use Rattle.proc_muxes.specs.Counts.{pieces_cells}
-use Rattle.proc_muxes.specs.Pieces.{AreHeldPieces, MakesPieces, piece_targets}
-use Rattle.proc_muxes.specs.Working.{work, changes_of, joined}
+use Rattle.proc_muxes.proofs.Common.{◌∙◌, ap, sym, subst, List, [], ◌+◌, length, Bit, names_of, sense, parts_of, parts_width, Assign, Done, assigning, AllBelow, IsShort, signals_kept, same_err, Piece}
+use Rattle.proc_muxes.proofs.Common.{pieces_cells, AreHeldPieces, MakesPieces, piece_targets, work, changes_of, joined}
 use Rattle.proc_muxes.proofs.Assigning.{right-is, right-laid, grown-work, made-held, taken-long, taken-as, right-below, short-puts, puts-as, assignment-built}
 use Rattle.proc_muxes.proofs.Laying.{steps-laid}
 use Rattle.proc_muxes.proofs.assignment.build_assignment.Goals as goal

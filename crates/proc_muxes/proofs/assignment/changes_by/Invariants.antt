@@ -1,6 +1,4 @@
-use Rattle.std.proofs.Common.{◌≡◌, [], length}
-use Rattle.proc_muxes.specs.Pieces.{AreHeldPieces, piece_targets}
-use Rattle.proc_muxes.specs.Working.{work, changes_of, joined}
+use Rattle.proc_muxes.proofs.Common.{◌≡◌, [], length, AreHeldPieces, piece_targets, work, changes_of, joined}
 use Rattle.proc_muxes.proofs.assignment.changes_by.Given as goal
 
 abbrev pub invariant-loop-rest : goal.invariant-loop-rest

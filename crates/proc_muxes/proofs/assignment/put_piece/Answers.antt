@@ -1,4 +1,4 @@
-use Rattle.proc_muxes.specs.Working.{work}
+use Rattle.proc_muxes.proofs.Common.{work}
 use Rattle.proc_muxes.proofs.Assigning.{keeps-from, keeps-at}
 use Rattle.proc_muxes.proofs.assignment.put_piece.Goals as goal
 

@@ -1,5 +1,4 @@
-use Rattle.std.proofs.Common.{◌≡◌, drop}
-use Rattle.proc_muxes.specs.Working.{is_changed}
+use Rattle.proc_muxes.proofs.Common.{◌≡◌, drop, is_changed}
 use Rattle.proc_muxes.proofs.change.is_changed.Given as goal
 
 abbrev pub invariant-loop-change : goal.invariant-loop-change

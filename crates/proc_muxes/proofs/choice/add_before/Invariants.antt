@@ -1,5 +1,4 @@
-use Rattle.std.proofs.Common.{◌≡◌, ◌++◌, length}
-use Rattle.proc_muxes.specs.Working.{all_had}
+use Rattle.proc_muxes.proofs.Common.{◌≡◌, ◌++◌, length, all_had}
 use Rattle.proc_muxes.proofs.choice.add_before.Given as goal
 
 abbrev pub invariant-loop-rest : goal.invariant-loop-rest

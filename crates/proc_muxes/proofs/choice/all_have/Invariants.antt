@@ -1,5 +1,4 @@
-use Rattle.std.proofs.Common.{◌≡◌, ◌++◌, length}
-use Rattle.proc_muxes.specs.Working.{work, AllFit, all_have}
+use Rattle.proc_muxes.proofs.Common.{◌≡◌, ◌++◌, length, work, AllFit, all_have}
 use Rattle.proc_muxes.proofs.choice.all_have.Given as goal
 
 abbrev pub invariant-loop-rest : goal.invariant-loop-rest

@@ -1,5 +1,4 @@
-use Rattle.std.proofs.Common.{refl}
-use Rattle.proc_muxes.specs.Working.{work}
+use Rattle.proc_muxes.proofs.Common.{refl, work}
 use Rattle.proc_muxes.proofs.Muxing.{rest-more, count-more}
 use Rattle.proc_muxes.proofs.choice.choose_all.Goals as goal
 

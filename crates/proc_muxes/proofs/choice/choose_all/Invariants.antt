@@ -1,5 +1,4 @@
-use Rattle.std.proofs.Common.{◌≡◌, ◌+◌, length}
-use Rattle.proc_muxes.specs.Working.{work}
+use Rattle.proc_muxes.proofs.Common.{◌≡◌, ◌+◌, length, work}
 use Rattle.proc_muxes.proofs.Muxing.{Rest}
 use Rattle.proc_muxes.proofs.choice.choose_all.Given as goal
 

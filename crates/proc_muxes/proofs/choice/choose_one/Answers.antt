@@ -1,4 +1,4 @@
-use Rattle.proc_muxes.specs.Working.{work}
+use Rattle.proc_muxes.proofs.Common.{work}
 use Rattle.proc_muxes.proofs.Muxing.{chooses-mux, mux-wide}
 use Rattle.proc_muxes.proofs.choice.choose_one.Goals as goal
 

@@ -1,4 +1,4 @@
-use Rattle.proc_muxes.specs.Working.{work}
+use Rattle.proc_muxes.proofs.Common.{work}
 use Rattle.proc_muxes.proofs.Merging.{fit-restored}
 use Rattle.proc_muxes.proofs.choice.restore.Goals as goal
 

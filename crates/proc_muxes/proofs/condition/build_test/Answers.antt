@@ -1,4 +1,4 @@
-use Rattle.vlog_meaning.proofs.Blanks.{left_nil, these_nil}
+use Rattle.proc_muxes.proofs.Common.{left_nil, these_nil}
 use Rattle.proc_muxes.proofs.condition.build_test.Goals as goal
 
 pub shape_of-shape-requires : goal.shape_of-shape-requires

@@ -1,7 +1,4 @@
-use Rattle.std.proofs.Common.{◌∙◌, sym}
-use Rattle.vlog_meaning.specs.Scopes.{names_of}
-use Rattle.net_builder.proofs.Handed.{same_err}
-use Rattle.net_builder.proofs.Parts.{below_later, grown_nets, grows_again}
+use Rattle.proc_muxes.proofs.Common.{◌∙◌, sym, names_of, same_err, below_later, grown_nets, grows_again}
 use Rattle.proc_muxes.proofs.Keeping.{grows-equal}
 use Rattle.proc_muxes.proofs.Labelling.{kept-long, kept-stands, label-built, equal-short, equal-test}
 use Rattle.proc_muxes.proofs.matching.build_label.Goals as goal

@@ -1,8 +1,4 @@
-use Rattle.std.proofs.Common.{arith}
-use Rattle.vlog_meaning.specs.Scopes.{names_of}
-use Rattle.elab_expr.proofs.Growing.{signals_kept}
-use Rattle.net_builder.proofs.Handed.{same_err}
-use Rattle.net_builder.proofs.Parts.{below_later, grown_nets}
+use Rattle.proc_muxes.proofs.Common.{arith, names_of, signals_kept, same_err, below_later, grown_nets}
 use Rattle.proc_muxes.proofs.Labelling.{clear-at, match-first, match-more, match-end, label-short, lor-short}
 use Rattle.proc_muxes.proofs.matching.build_match.Goals as goal
 

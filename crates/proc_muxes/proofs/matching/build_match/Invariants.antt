@@ -1,5 +1,4 @@
-use Rattle.std.proofs.Common.{drop}
-use Rattle.vlog_meaning.specs.Scopes.{names_of}
+use Rattle.proc_muxes.proofs.Common.{drop, names_of}
 use Rattle.proc_muxes.proofs.Labelling.{Matched}
 use Rattle.proc_muxes.proofs.matching.build_match.Given as goal
 

@@ -1,4 +1,4 @@
-use Rattle.std.proofs.Common.{rules}
+use Rattle.proc_muxes.proofs.Common.{rules}
 use Rattle.proc_muxes.proofs.Labelling.{kept_skip}
 use Rattle.proc_muxes.proofs.matching.kept.Goals as goal
 

@@ -1,9 +1,5 @@
-use Rattle.std.proofs.Common.{◌∙◌, ap, map, take, rules, add-one}
-use Rattle.vlog_syntax.specs.declared.left_side.LeftSide.TheViews.{the_lemmas}
-use Rattle.vlog_meaning.specs.Scopes.{names_of}
-use Rattle.vlog_effects.specs.LeftSides.{Whole, Range, parts_of, concatenated}
+use Rattle.proc_muxes.proofs.Common.{◌∙◌, ap, map, take, rules, add-one, the_lemmas, names_of, Whole, Range, parts_of, concatenated, same_err}
 use Rattle.vlog_effects.proofs.Folds.{parts-name, parts-range}
-use Rattle.net_builder.proofs.Handed.{same_err}
 use Rattle.proc_muxes.proofs.Piecing.{makes-one, makes-next, makes-signals, can-element, element-short}
 use Rattle.proc_muxes.proofs.piece.+pieces.Goals as goal
 

@@ -1,6 +1,4 @@
-use Rattle.std.proofs.Common.{rules, add-one, arith}
-use Rattle.vlog_syntax.specs.declared.left_side.LeftSide.TheViews.{the_lemmas}
-use Rattle.vlog_meaning.specs.Scopes.{names_of}
+use Rattle.proc_muxes.proofs.Common.{rules, add-one, arith, the_lemmas, names_of}
 use Rattle.proc_muxes.proofs.Piecing.{can-element, width-fits, width-next}
 use Rattle.proc_muxes.proofs.piece.+width.Goals as goal
 

@@ -1,6 +1,4 @@
-use Rattle.std.proofs.Common.{◌≡◌, map, take}
-use Rattle.vlog_meaning.specs.Scopes.{names_of}
-use Rattle.vlog_effects.specs.LeftSides.{parts_of, parts_width, concatenated}
+use Rattle.proc_muxes.proofs.Common.{◌≡◌, map, take, names_of, parts_of, parts_width, concatenated}
 use Rattle.proc_muxes.proofs.piece.+width.Given as goal
 
 abbrev pub invariant-left_widths-loop-part : goal.invariant-left_widths-loop-part

@@ -1,4 +1,4 @@
-use Rattle.vlog_meaning.specs.Scopes.{names_of}
+use Rattle.proc_muxes.proofs.Common.{names_of}
 use Rattle.proc_muxes.proofs.Piecing.{clear-bit}
 use Rattle.proc_muxes.proofs.piece.bit_piece.Goals as goal
 

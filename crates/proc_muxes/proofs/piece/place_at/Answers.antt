@@ -1,11 +1,4 @@
-use Rattle.std.proofs.Common.{◌≡◌, ◌≤◌, length, sym, ◌∙◌, ap, subst}
-use Rattle.vlog_meaning.specs.declared.shapes.Shape.{Shape}
-use Rattle.vlog_meaning.specs.Scopes.{names_of}
-use Rattle.expr_plans.specs.Made.{index_width}
-use Rattle.net_builder.specs.Building.{AllBelow}
-use Rattle.elab_expr.specs.Evaluates.{Evaluates}
-use Rattle.elab_expr.specs.Laid.{index_bits}
-use Rattle.proc_muxes.specs.Builds.{IsLaid}
+use Rattle.proc_muxes.proofs.Common.{◌≡◌, ◌≤◌, length, sym, ◌∙◌, ap, subst, Shape, names_of, index_width, AllBelow, Evaluates, index_bits, IsLaid}
 use Rattle.proc_muxes.proofs.Piecing.{placed-variable}
 use Rattle.proc_muxes.proofs.piece.place_at.Goals as goal
 

@@ -1,9 +1,6 @@
-use Rattle.std.proofs.Common.{◌≡◌, ◌+◌, ◌-◌, ◌<◌, ℕ, ℤ, pos, ◌+ℤ◌, false, length, get_or, drop, List, Option, Some, None, Vec, Global, sym, ◌∙◌, ap}
+use Rattle.proc_muxes.proofs.Common.{◌≡◌, ◌+◌, ◌-◌, ◌<◌, ℕ, ℤ, pos, ◌+ℤ◌, false, length, get_or, drop, List, Option, Some, None, Vec, Global, sym, ◌∙◌, ap, Bit, Fixed, bound_integer, Vector, bit_at}
+use Rattle.proc_muxes.proofs.Common.{bits_from, written}
 use Rattle.std.specs.Vec.{with_item}
-use Rattle.netlist_core.specs.declared.bit.Bit.{Bit}
-use Rattle.netlist_core.specs.declared.bit.Bit.TheVariants.{Fixed}
-use Rattle.vlog_meaning.specs.Integers.{bound_integer}
-use Rattle.vlog_effects.specs.LeftSides.{Vector, bit_at, bits_from, written}
 use Rattle.proc_muxes.proofs.Placing.{write_at, written-more, write-long}
 use Rattle.proc_muxes.proofs.put.laid.Goals as goal
 use Rattle.proc_muxes.proofs.put.laid.Goals.{in-Some, in_default}

@@ -1,6 +1,4 @@
-use Rattle.std.proofs.Common.{◌≡◌, ◌-◌, pos, ◌+ℤ◌, drop, length}
-use Rattle.vlog_meaning.specs.Integers.{bound_integer}
-use Rattle.vlog_effects.specs.LeftSides.{Vector, bits_from, written}
+use Rattle.proc_muxes.proofs.Common.{◌≡◌, ◌-◌, pos, ◌+ℤ◌, drop, length, bound_integer, Vector, bits_from, written}
 use Rattle.proc_muxes.proofs.put.laid.Given as goal
 
 abbrev pub invariant-loop-k : goal.invariant-loop-k

@@ -1,4 +1,4 @@
-use Rattle.proc_muxes.specs.Working.{work}
+use Rattle.proc_muxes.proofs.Common.{work}
 use Rattle.proc_muxes.proofs.Putting.{puts-at, put-wide}
 use Rattle.proc_muxes.proofs.put.put_at.Goals as goal
 

@@ -1,6 +1,4 @@
-use Rattle.vlog_meaning.specs.Integers.{bound_integer}
-use Rattle.proc_muxes.specs.Builds.{held}
-use Rattle.proc_muxes.specs.Working.{work}
+use Rattle.proc_muxes.proofs.Common.{bound_integer, held, work}
 use Rattle.proc_muxes.proofs.Putting.{laid-wide}
 use Rattle.proc_muxes.proofs.put.put_from.Goals as goal
 

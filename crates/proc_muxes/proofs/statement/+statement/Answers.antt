@@ -1,39 +1,20 @@
-use Rattle.std.proofs.Common.{ℕ, ◌+◌, ◌∙◌, [], List, map, take, length, true, false, IfOk, IfErr, refl, sym, ap, subst, rules, arith}
+use Rattle.proc_muxes.proofs.Common.{ℕ, ◌+◌, ◌∙◌, [], List, map, take, length, true, false, IfOk, IfErr, refl, sym, ap, subst, rules, arith, option_map, IfErr-weaker, left_lemmas, Decl, Constant}
+use Rattle.proc_muxes.proofs.Common.{Names, names_of, with_name, item_steps, Steps, assigning, steps_of, else_steps, done_by, labelled, HasSignals, made, IsShort, ElabError, signals_kept, same_err}
+use Rattle.proc_muxes.proofs.Common.{below_later, labels_in, loop_of, turn_steps, GoesOn, item_body, IsOf, Change, Turn, AreClearLabels, IsReady, cells_of, arms_cells, work, Built}
 use Rattle.std.specs.Prelude.{Option, None, Some}
-use Rattle.std.specs.Option.{option_map}
-use Rattle.std.proofs.lemmas.Result.{IfErr-weaker}
-use Rattle.vlog_syntax.specs.declared.left_side.LeftSide.TheViews.{the_lemmas as left_lemmas}
 use Rattle.vlog_syntax.specs.declared.stmt.Stmt.TheViews.{the_lemmas}
-use Rattle.vlog_meaning.specs.declared.scope.Decl.{Decl}
-use Rattle.vlog_meaning.specs.declared.scope.Decl.TheVariants.{Constant}
-use Rattle.vlog_meaning.specs.Scopes.{Names, names_of, with_name}
-use Rattle.vlog_effects.specs.Laws.{item_steps}
-use Rattle.vlog_effects.specs.Steps.{Steps, assigning, steps_of, else_steps, done_by, labelled}
-use Rattle.net_builder.specs.Building.{HasSignals}
-use Rattle.expr_plans.specs.Made.{made}
-use Rattle.net_builder.specs.Refusals.{IsShort}
-use Rattle.net_builder.specs.declared.error.ElabError.{ElabError}
-use Rattle.elab_expr.proofs.Growing.{signals_kept}
-use Rattle.net_builder.proofs.Handed.{same_err}
-use Rattle.net_builder.proofs.Parts.{below_later}
-use Rattle.elab_proc.specs.Refusals.{labels_in}
-use Rattle.elab_proc.specs.Turns.{loop_of, turn_steps, GoesOn}
 use Rattle.elab_proc.proofs.TurnLemmas.{some_after, alike_after, put_back}
-use Rattle.case_arms.specs.Arms.{item_body}
-use Rattle.case_arms.specs.Naming.{IsOf}
-use Rattle.proc_muxes.specs.declared.change.Change.{Change}
-use Rattle.proc_muxes.specs.declared.statement.Turn.{Turn}
-use Rattle.proc_muxes.specs.Clear.{AreClearLabels, IsReady}
-use Rattle.proc_muxes.specs.Counts.{cells_of, arms_cells}
 use Rattle.proc_muxes.specs.Turns.{AsksTurn, IsBuiltTurn}
-use Rattle.proc_muxes.specs.Working.{work, Built}
-use Rattle.proc_muxes.proofs.Branching.{else-as, block-as, choice-as, choice-clear, first-ready, test-places, first-fit, backs, haves, second-ready, choices-ready, test-below, both-stand, choice-built, test-short, first-short, second-short, muxes-short}
-use Rattle.proc_muxes.proofs.Closing.{case-is, case-of, case-arms, case-wrong, case-sized, case-keeps, case-held, case-stands, case-items-ready, case-last-ready, case-built, selector-allowed, selector-short, arms-short, items-short, last-short, close-start, closing-on, close-fit, close-one, close-below, close-stands, close-next, close-short, close-end}
+use Rattle.proc_muxes.proofs.Branching.{else-as, block-as, choice-as, choice-clear, first-ready, test-places, first-fit, backs, haves, second-ready, choices-ready, test-below, both-stand}
+use Rattle.proc_muxes.proofs.Branching.{choice-built, test-short, first-short, second-short, muxes-short}
+use Rattle.proc_muxes.proofs.Closing.{case-is, case-of, case-arms, case-wrong, case-sized, case-keeps, case-held, case-stands, case-items-ready, case-last-ready, case-built, selector-allowed}
+use Rattle.proc_muxes.proofs.Closing.{selector-short, arms-short, items-short, last-short, close-start, closing-on, close-fit, close-one, close-below, close-stands, close-next, close-short, close-end}
 use Rattle.proc_muxes.proofs.Frames.{keeps-again, nets-added}
 use Rattle.proc_muxes.proofs.Laying.{steps-laid, result-laid}
 use Rattle.proc_muxes.proofs.Opening.{ready-item, open-skip, open-more, open-one, arm-keeps, body-ready, grown-places, match-short, body-short, opened-keeps, last-is, within-some}
 use Rattle.proc_muxes.proofs.Refusing.{no-other}
-use Rattle.proc_muxes.proofs.Turning.{turns-are, turns-ready, turned-start, turn-ready, turned-more, turned-end, turn-room, turned-all, turn-fails, turn-over, body-asked, turn-stops, turn-built, turn-short, start-named, start-none, start-constant, start-fails, start-goes, loop-is}
+use Rattle.proc_muxes.proofs.Turning.{turns-are, turns-ready, turned-start, turn-ready, turned-more, turned-end, turn-room, turned-all, turn-fails, turn-over, body-asked, turn-stops, turn-built}
+use Rattle.proc_muxes.proofs.Turning.{turn-short, start-named, start-none, start-constant, start-fails, start-goes, loop-is}
 use Rattle.proc_muxes.proofs.Walking.{ready-as, ready-later, block-ready, block-built, block-short, null-built, none-built, blocking-is, nonblocking-is, assign-ready, alone-short}
 use Rattle.proc_muxes.proofs.statement.+statement.Goals as goal
 

@@ -1,17 +1,6 @@
-use Rattle.std.proofs.Common.{◌≡◌, ◌+◌, ◌*◌, [], map, take, length}
-use Rattle.std.specs.Prelude.{IsSome}
+use Rattle.proc_muxes.proofs.Common.{◌≡◌, ◌+◌, ◌*◌, [], map, take, length, IsSome, names_of, item_steps, Selection, steps_of, in_turn, labelled, Building, Evaluates, IsOf, loop_of, AlikeBut, IsLaid}
+use Rattle.proc_muxes.proofs.Common.{Opened, Keeps, work, Built}
 use Rattle.vlog_syntax.specs.declared.stmt.Stmt.TheViews.{size-Stmt}
-use Rattle.vlog_meaning.specs.Scopes.{names_of}
-use Rattle.vlog_effects.specs.Laws.{item_steps}
-use Rattle.vlog_effects.specs.Steps.{Selection, steps_of, in_turn, labelled}
-use Rattle.net_builder.specs.Building.{Building}
-use Rattle.elab_expr.specs.Evaluates.{Evaluates}
-use Rattle.case_arms.specs.Naming.{IsOf}
-use Rattle.elab_proc.specs.Turns.{loop_of, AlikeBut}
-use Rattle.proc_muxes.specs.Builds.{IsLaid}
-use Rattle.proc_muxes.specs.Cases.{Opened}
-use Rattle.proc_muxes.specs.Shows.{Keeps}
-use Rattle.proc_muxes.specs.Working.{work, Built}
 use Rattle.proc_muxes.proofs.Closing.{Closing, case-of, case-arms}
 use Rattle.proc_muxes.proofs.Turning.{Turned}
 use Rattle.proc_muxes.proofs.statement.+statement.Given as goal

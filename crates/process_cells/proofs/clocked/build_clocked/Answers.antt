@@ -1,10 +1,5 @@
-use Rattle.std.proofs.Common.{false, ◌≡◌, ℕ, List, length, sym, subst, ap, ◌∙◌}
-use Rattle.vlog_meaning.specs.Scopes.{names_of}
-use Rattle.vlog_effects.specs.Steps.{steps_of}
-use Rattle.proc_muxes.specs.declared.change.Change.{Change}
-use Rattle.proc_muxes.specs.declared.choice.Choice.{Choice}
-use Rattle.proc_muxes.specs.Working.{work, all_have, given_back, AllFit}
-use Rattle.process_cells.specs.Processes.{AllKnown, variables, all_waiting, CanStoreAll, Stores}
+use Rattle.process_cells.proofs.Common.{false, ◌≡◌, ℕ, List, length, sym, subst, ap, ◌∙◌, names_of, steps_of, Change, Choice, work, all_have, given_back, AllFit, AllKnown, variables, all_waiting}
+use Rattle.process_cells.proofs.Common.{CanStoreAll, Stores}
 use Rattle.process_cells.proofs.Adding.{clocked_added}
 use Rattle.process_cells.proofs.Begun.{Given}
 use Rattle.process_cells.proofs.Clocking.{known_clocked, ready_clocked, places_before, fit_after, can_after, clocks, clocked_stands, clocked_places}

@@ -1,11 +1,5 @@
-use Rattle.std.proofs.Common.{true, ◌≡◌, ◌+◌, ℕ, List, length, sym, subst, ap, ◌∙◌}
-use Rattle.vlog_meaning.specs.Scopes.{names_of}
-use Rattle.vlog_effects.specs.Steps.{steps_of}
-use Rattle.net_builder.specs.Refusals.{IsShort}
+use Rattle.process_cells.proofs.Common.{true, ◌≡◌, ◌+◌, ℕ, List, length, sym, subst, ap, ◌∙◌, names_of, steps_of, IsShort, cells_of, Kept, AllKnown, AllReturn, variables, blank, all_kept}
 use Rattle.net_builder.proofs.Handed.{same_err}
-use Rattle.proc_muxes.specs.Counts.{cells_of}
-use Rattle.process_cells.specs.declared.kept.Kept.{Kept}
-use Rattle.process_cells.specs.Processes.{AllKnown, AllReturn, variables, blank, all_kept}
 use Rattle.process_cells.proofs.Accepted.{accepted_blocking}
 use Rattle.process_cells.proofs.Adding.{combinational_added}
 use Rattle.process_cells.proofs.Begun.{Given, known_variables, ready_blank, blank_places, blank_cells}

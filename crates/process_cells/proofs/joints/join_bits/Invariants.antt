@@ -1,6 +1,4 @@
-use Rattle.std.proofs.Common.{◌≡◌, length}
-use Rattle.flat_runs.specs.Parts.{with_joints}
-use Rattle.process_cells.specs.Processes.{joints_of}
+use Rattle.process_cells.proofs.Common.{◌≡◌, length, with_joints, joints_of}
 use Rattle.process_cells.proofs.joints.join_bits.Given as goal
 
 abbrev pub invariant-loop-owns : goal.invariant-loop-owns

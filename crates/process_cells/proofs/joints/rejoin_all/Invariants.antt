@@ -1,5 +1,4 @@
-use Rattle.std.proofs.Common.{◌≡◌, length}
-use Rattle.process_cells.specs.Processes.{AllReturn, all_rejoined}
+use Rattle.process_cells.proofs.Common.{◌≡◌, length, AllReturn, all_rejoined}
 use Rattle.process_cells.proofs.joints.rejoin_all.Given as goal
 
 abbrev pub invariant-loop-rest : goal.invariant-loop-rest

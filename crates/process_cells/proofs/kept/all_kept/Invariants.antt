@@ -1,5 +1,4 @@
-use Rattle.std.proofs.Common.{◌≡◌, ◌++◌, length}
-use Rattle.process_cells.specs.Processes.{AllKnown, all_kept}
+use Rattle.process_cells.proofs.Common.{◌≡◌, ◌++◌, length, AllKnown, all_kept}
 use Rattle.process_cells.proofs.kept.all_kept.Given as goal
 
 abbrev pub invariant-loop-rest : goal.invariant-loop-rest

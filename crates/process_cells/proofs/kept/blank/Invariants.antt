@@ -1,5 +1,4 @@
-use Rattle.std.proofs.Common.{◌≡◌, length}
-use Rattle.process_cells.specs.Processes.{AllKnown, blank}
+use Rattle.process_cells.proofs.Common.{◌≡◌, length, AllKnown, blank}
 use Rattle.process_cells.proofs.kept.blank.Given as goal
 
 abbrev pub invariant-loop-rest : goal.invariant-loop-rest

@@ -1,5 +1,4 @@
-use Rattle.std.proofs.Common.{◌≡◌, ◌++◌, length}
-use Rattle.process_cells.specs.Processes.{zeros}
+use Rattle.process_cells.proofs.Common.{◌≡◌, ◌++◌, length, zeros}
 use Rattle.process_cells.proofs.kept.zeros.Given as goal
 
 abbrev pub invariant-loop-rest : goal.invariant-loop-rest

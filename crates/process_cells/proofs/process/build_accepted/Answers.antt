@@ -1,8 +1,4 @@
-use Rattle.std.proofs.Common.{refl}
-use Rattle.std.proofs.lemmas.Result.{IfErr-weaker, on_ok_weaker}
-use Rattle.vlog_meaning.specs.Scopes.{names_of}
-use Rattle.vlog_effects.specs.Steps.{steps_of}
-use Rattle.process_events.specs.Events.{said}
+use Rattle.process_cells.proofs.Common.{refl, IfErr-weaker, on_ok_weaker, names_of, steps_of, said}
 use Rattle.process_cells.proofs.Items.{steps_are, fit_there, process_added, process_short}
 use Rattle.process_cells.proofs.process.build_accepted.Goals as goal
 

@@ -1,12 +1,5 @@
-use Rattle.std.proofs.Common.{◌+◌, length, sym, subst}
-use Rattle.std.specs.Prelude.{OnOk, IfErr}
-use Rattle.std.proofs.lemmas.Result.{on_ok_weaker}
-use Rattle.vlog_meaning.specs.Scopes.{names_of}
-use Rattle.vlog_effects.specs.Steps.{steps_of}
-use Rattle.net_builder.specs.Refusals.{IsShort}
+use Rattle.process_cells.proofs.Common.{◌+◌, length, sym, subst, OnOk, IfErr, on_ok_weaker, names_of, steps_of, IsShort, said, cells_by, AddsBy, IsFit}
 use Rattle.process_events.specs.declared.sensitivity.Sensitivity.{Sensitivity}
-use Rattle.process_events.specs.Events.{said}
-use Rattle.process_cells.specs.Items.{cells_by, AddsBy, IsFit}
 use Rattle.process_cells.proofs.Items.{once_adds, refused_adds}
 use Rattle.process_cells.proofs.process.build_body.Goals as goal
 

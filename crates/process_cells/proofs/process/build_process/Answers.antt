@@ -1,8 +1,4 @@
-use Rattle.std.proofs.Common.{sym, subst}
-use Rattle.vlog_meaning.specs.Scopes.{Names, names_of}
-use Rattle.net_builder.specs.Building.{HasSignals}
-use Rattle.elab_proc.specs.Refusals.{AreSized}
-use Rattle.process_latches.specs.Refused.{process_refusals}
+use Rattle.process_cells.proofs.Common.{sym, subst, Names, names_of, HasSignals, AreSized, process_refusals}
 use Rattle.process_cells.proofs.Items.{first_stays, accepted_stays, adds_stays, short_stays, kept_stays, fit_stays, no_memory}
 use Rattle.process_cells.proofs.Laying.{result_laid}
 use Rattle.process_cells.proofs.process.build_process.Goals as goal

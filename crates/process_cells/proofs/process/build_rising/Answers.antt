@@ -1,15 +1,6 @@
-use Rattle.std.proofs.Common.{◌+◌, false, length, sym, subst, ap, ◌∙◌}
-use Rattle.std.proofs.lemmas.Result.{IfErr-weaker, on_ok_weaker}
-use Rattle.vlog_meaning.specs.Scopes.{Names, names_of}
-use Rattle.vlog_effects.specs.Steps.{steps_of}
-use Rattle.net_builder.specs.Building.{HasSignals}
-use Rattle.net_builder.specs.Refusals.{IsShort}
-use Rattle.elab_proc.specs.Refusals.{AreSized}
+use Rattle.process_cells.proofs.Common.{◌+◌, false, length, sym, subst, ap, ◌∙◌, IfErr-weaker, on_ok_weaker, Names, names_of, steps_of, HasSignals, IsShort, AreSized, cells_of, AddsBy, variables}
+use Rattle.process_cells.proofs.Common.{HasOneKind, IsAccepted}
 use Rattle.process_events.specs.Events as v
-use Rattle.proc_muxes.specs.Counts.{cells_of}
-use Rattle.process_cells.specs.Items.{AddsBy}
-use Rattle.process_cells.specs.Processes.{variables, HasOneKind}
-use Rattle.process_cells.specs.Ready.{IsAccepted}
 use Rattle.process_cells.proofs.Items.{both_ok, clocked_adds, item_own}
 use Rattle.process_cells.proofs.process.build_rising.Goals as goal
 

@@ -1,6 +1,4 @@
-use Rattle.std.proofs.lemmas.Result.{IfOk-weaker}
-use Rattle.vlog_meaning.specs.Scopes.{names_of}
-use Rattle.vlog_effects.specs.Steps.{steps_of}
+use Rattle.process_cells.proofs.Common.{IfOk-weaker, names_of, steps_of}
 use Rattle.process_cells.proofs.Items.{marked_numbers}
 use Rattle.process_cells.proofs.process.numbers_of.Goals as goal
 

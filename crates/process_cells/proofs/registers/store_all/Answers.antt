@@ -1,4 +1,4 @@
-use Rattle.std.proofs.Common.{[], take, refl}
+use Rattle.process_cells.proofs.Common.{[], take, refl}
 use Rattle.process_cells.proofs.Storing.{stores_none, can_later, stores_more, stores_all}
 use Rattle.process_cells.proofs.registers.store_all.Goals as goal
 

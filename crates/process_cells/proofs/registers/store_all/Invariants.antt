@@ -1,5 +1,4 @@
-use Rattle.std.proofs.Common.{take}
-use Rattle.process_cells.specs.Processes.{CanStoreAll, Stores}
+use Rattle.process_cells.proofs.Common.{take, CanStoreAll, Stores}
 use Rattle.process_cells.proofs.registers.store_all.Given as goal
 
 abbrev pub invariant-loop-variable : goal.invariant-loop-variable

@@ -1,6 +1,5 @@
-use Rattle.std.proofs.Common.{refl, arith, add-one, rules}
+use Rattle.process_cells.proofs.Common.{refl, arith, add-one, rules, names_of}
 use Rattle.vlog_syntax.specs.declared.stmt.Stmt.TheViews.{the_lemmas}
-use Rattle.vlog_meaning.specs.Scopes.{names_of}
 use Rattle.process_cells.proofs.Starting.{same_others, signals_stay, goes_done, turn_more, block_starts, assignment_starts}
 use Rattle.process_cells.proofs.starts.+starts.Goals as goal
 

@@ -1,8 +1,4 @@
-use Rattle.std.proofs.Common.{◌≡◌, ◌+◌, ◌*◌, [], map, take}
-use Rattle.std.specs.List.{flat_map}
-use Rattle.vlog_meaning.specs.Scopes.{names_of}
-use Rattle.vlog_effects.specs.Steps.{in_turn, steps_of}
-use Rattle.process_latches.specs.Initial.{initial_refusals}
+use Rattle.process_cells.proofs.Common.{◌≡◌, ◌+◌, ◌*◌, [], map, take, flat_map, names_of, in_turn, steps_of, initial_refusals}
 use Rattle.process_cells.specs.Starts.{SameButStarts, GoesOn}
 use Rattle.process_cells.proofs.starts.+starts.Given as goal
 

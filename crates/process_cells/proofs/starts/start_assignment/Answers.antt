@@ -1,8 +1,5 @@
-use Rattle.std.proofs.Common.{ap, ◌∙◌, rules}
+use Rattle.process_cells.proofs.Common.{ap, ◌∙◌, rules, the_lemmas, names_of, sized_there}
 use Rattle.std.specs.Prelude.{Some}
-use Rattle.vlog_syntax.specs.declared.left_side.LeftSide.TheViews.{the_lemmas}
-use Rattle.vlog_meaning.specs.Scopes.{names_of}
-use Rattle.process_latches.proofs.Initials.{sized_there}
 use Rattle.process_cells.proofs.Starting.{signal_there, signal_starts, constant_starts, unknown_starts, unnamed_starts}
 use Rattle.process_cells.proofs.starts.start_assignment.Goals as goal
 

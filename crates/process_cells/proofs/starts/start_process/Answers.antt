@@ -1,7 +1,5 @@
-use Rattle.std.proofs.Common.{refl, sym, ap, ◌∙◌}
-use Rattle.vlog_meaning.specs.Scopes.{names_of}
+use Rattle.process_cells.proofs.Common.{refl, sym, ap, ◌∙◌, names_of, said}
 use Rattle.process_events.specs.Events as v
-use Rattle.process_events.specs.Events.{said}
 use Rattle.process_cells.proofs.Starting.{process_starts_with, process_starts_not}
 use Rattle.process_cells.proofs.starts.start_process.Goals as goal
 

@@ -1,7 +1,5 @@
-use Rattle.std.proofs.Common.{ℕ, ap, ◌∙◌}
-use Rattle.vlog_meaning.specs.Scopes.{names_of}
-use Rattle.vlog_meaning.specs.Senses.{sense, assigned, constant_faults_at}
-use Rattle.net_builder.specs.Building.{with_start}
+use Rattle.process_cells.proofs.Common.{ℕ, ap, ◌∙◌, names_of, sense, constant_faults_at, with_start}
+use Rattle.vlog_meaning.specs.Senses.{assigned}
 use Rattle.process_cells.proofs.Starting.{no_error}
 use Rattle.process_cells.proofs.starts.start_signal.Goals as goal
 

@@ -1,6 +1,4 @@
-use Rattle.std.proofs.Common.{◌≡◌, take, map}
-use Rattle.proc_muxes.specs.Builds.{distinct}
-use Rattle.process_latches.specs.Writes.{target_of}
+use Rattle.process_cells.proofs.Common.{◌≡◌, take, map, distinct, target_of}
 use Rattle.process_cells.proofs.variables.firsts_of.Given as goal
 
 abbrev pub invariant-loop-write : goal.invariant-loop-write

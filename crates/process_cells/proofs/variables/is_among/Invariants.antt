@@ -1,6 +1,4 @@
-use Rattle.std.proofs.Common.{◌≡◌, drop, map}
-use Rattle.proc_muxes.specs.Builds.{stands}
-use Rattle.process_latches.specs.Writes.{target_of}
+use Rattle.process_cells.proofs.Common.{◌≡◌, drop, map, stands, target_of}
 use Rattle.process_cells.proofs.variables.is_among.Given as goal
 
 abbrev pub invariant-loop-write : goal.invariant-loop-write

@@ -1,5 +1,4 @@
-use Rattle.std.proofs.Common.{◌≡◌, take, map}
-use Rattle.process_latches.specs.declared.marks.Write.{Write}
+use Rattle.process_cells.proofs.Common.{◌≡◌, take, map, Write}
 use Rattle.process_cells.proofs.variables.numbers_of.Given as goal
 
 abbrev pub invariant-loop-write : goal.invariant-loop-write

@@ -1,8 +1,4 @@
-use Rattle.std.proofs.Common.{map, ap, ◌∙◌}
-use Rattle.std.proofs.lemmas.Result.{IfOk-weaker}
-use Rattle.process_latches.specs.declared.marks.Write.{Write}
-use Rattle.proc_muxes.specs.Builds.{distinct}
-use Rattle.process_latches.specs.Writes.{target_of}
+use Rattle.process_cells.proofs.Common.{map, ap, ◌∙◌, IfOk-weaker, Write, distinct, target_of}
 use Rattle.process_cells.proofs.Firsts.{numbers_all}
 use Rattle.process_cells.proofs.variables.variables_of.Goals as goal
 

@@ -1,5 +1,4 @@
-use Rattle.std.proofs.Common.{◌≡◌, length}
-use Rattle.process_cells.specs.Processes.{AllKnown, all_waiting}
+use Rattle.process_cells.proofs.Common.{◌≡◌, length, AllKnown, all_waiting}
 use Rattle.process_cells.proofs.waiting.all_waiting.Given as goal
 
 abbrev pub invariant-loop-rest : goal.invariant-loop-rest

@@ -1,4 +1,4 @@
-use Rattle.std.proofs.Common.{◌≡◌, ◌≤◌, ◌-◌, [], length, replicate}
+use Rattle.process_cells.proofs.Common.{◌≡◌, ◌≤◌, ◌-◌, [], length, replicate}
 use Rattle.process_cells.proofs.waiting.empty_places.Given as goal
 
 abbrev pub invariant-loop-alloc : goal.invariant-loop-alloc

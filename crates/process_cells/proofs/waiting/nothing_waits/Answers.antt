@@ -1,9 +1,4 @@
-use Rattle.std.proofs.Common.{◌≡◌, ℕ, zero, suc, List, [], length, replicate, refl, sym, ap, ◌∙◌, subst}
-use Rattle.std.proofs.lemmas.List.{length-replicate}
-use Rattle.netlist_core.specs.declared.bit.Bit.{Bit}
-use Rattle.net_builder.specs.Building.{Building, AllBelow}
-use Rattle.proc_muxes.specs.Working.{pending_of}
-use Rattle.process_cells.specs.Ready.{HasPlaces}
+use Rattle.process_cells.proofs.Common.{◌≡◌, ℕ, zero, suc, List, [], length, replicate, refl, sym, ap, ◌∙◌, subst, length-replicate, Bit, Building, AllBelow, pending_of, HasPlaces}
 use Rattle.process_cells.proofs.waiting.nothing_waits.Goals as goal
 
 none_at : (m n : ℕ) → pending_of (replicate m []) n ≡ []

@@ -1,13 +1,4 @@
-use Rattle.std.proofs.Common.{◌∙◌, sym, ap}
-use Rattle.vlog_meaning.specs.declared.shapes.Shape.{Shape}
-use Rattle.vlog_meaning.specs.Answers.{least}
-use Rattle.vlog_meaning.specs.Scopes.{names_of}
-use Rattle.vlog_meaning.specs.Senses.{sense, assigned}
-use Rattle.vlog_meaning.proofs.Blanks.{left_nil}
-use Rattle.vlog_meaning.proofs.Firsts.{least_none}
-use Rattle.vlog_meaning.proofs.Refusals.{kept, passed}
-use Rattle.elab_proc.specs.Refusals.{wrong, divisions}
-use Rattle.elab_proc.proofs.SideLemmas.{context_is}
+use Rattle.process_latches.proofs.Common.{◌∙◌, sym, ap, Shape, least, names_of, sense, assigned, left_nil, least_none, kept, passed, wrong, divisions, context_is}
 use Rattle.process_latches.proofs.assignments.assigned_fault.Goals as goal
 
 pub shape_of-own-requires-in-None : goal.shape_of-own-requires-in-None

@@ -1,4 +1,4 @@
-use Rattle.vlog_meaning.specs.Scopes.{names_of}
+use Rattle.process_latches.proofs.Common.{names_of}
 use Rattle.process_latches.proofs.Assigned.{assign_marked}
 use Rattle.process_latches.proofs.assignments.mark_assignment.Goals as goal
 

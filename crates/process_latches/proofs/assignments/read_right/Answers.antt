@@ -1,6 +1,4 @@
-use Rattle.std.proofs.lemmas.Result.{on_ok_weaker}
-use Rattle.vlog_meaning.specs.Scopes.{names_of}
-use Rattle.process_latches.specs.Sound.{right_faults}
+use Rattle.process_latches.proofs.Common.{on_ok_weaker, names_of, right_faults}
 use Rattle.process_latches.proofs.Assigned.{right_read}
 use Rattle.process_latches.proofs.Reading.{right_shaped}
 use Rattle.process_latches.proofs.assignments.read_right.Goals as goal

@@ -1,8 +1,4 @@
-use Rattle.std.proofs.Common.{◌∙◌, sym}
-use Rattle.vlog_meaning.specs.Scopes.{names_of}
-use Rattle.vlog_meaning.proofs.Blanks.{left_nil}
-use Rattle.vlog_meaning.proofs.Firsts.{least_none}
-use Rattle.elab_proc.specs.Refusals.{wrong}
+use Rattle.process_latches.proofs.Common.{◌∙◌, sym, names_of, left_nil, least_none, wrong}
 use Rattle.process_latches.proofs.Reading.{right_by, right_whole}
 use Rattle.process_latches.proofs.assignments.right_fault.Goals as goal
 

@@ -1,5 +1,4 @@
-use Rattle.std.proofs.Common.{arith, add-one}
-use Rattle.vlog_meaning.specs.Scopes.{names_of}
+use Rattle.process_latches.proofs.Common.{arith, add-one, names_of}
 use Rattle.process_latches.proofs.Initials.{block_first, assignment_first, block_more}
 use Rattle.process_latches.proofs.initial.+initial.Goals as goal
 

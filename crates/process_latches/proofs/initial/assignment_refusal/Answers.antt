@@ -1,6 +1,4 @@
-use Rattle.std.proofs.Common.{rules}
-use Rattle.vlog_syntax.specs.declared.left_side.LeftSide.TheViews.{the_lemmas}
-use Rattle.vlog_meaning.specs.Scopes.{names_of}
+use Rattle.process_latches.proofs.Common.{rules, the_lemmas, names_of}
 use Rattle.process_latches.proofs.Initials.{name_first, other_first}
 use Rattle.process_latches.proofs.initial.assignment_refusal.Goals as goal
 

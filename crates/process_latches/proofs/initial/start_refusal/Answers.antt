@@ -1,6 +1,4 @@
-use Rattle.std.proofs.Common.{ap, ◌∙◌}
-use Rattle.std.specs.Prelude.{Some}
-use Rattle.vlog_meaning.specs.Scopes.{names_of}
+use Rattle.process_latches.proofs.Common.{ap, ◌∙◌, Some, names_of}
 use Rattle.process_latches.proofs.Initials.{declared_first, sized_there}
 use Rattle.process_latches.proofs.initial.start_refusal.Goals as goal
 

@@ -1,13 +1,6 @@
-use Rattle.std.proofs.Common.{map, refl, sym, ap, ◌∙◌}
+use Rattle.process_latches.proofs.Common.{map, refl, sym, ap, ◌∙◌, Shape, least, names_of, sense, assigned, fault, not_constant, least_none, kept, passed, context_is}
 use Rattle.std.specs.Prelude.{false}
 use Rattle.vlog_meaning.specs.declared.fault.Cause.TheVariants.{DivideByZero}
-use Rattle.vlog_meaning.specs.declared.shapes.Shape.{Shape}
-use Rattle.vlog_meaning.specs.Answers.{least}
-use Rattle.vlog_meaning.specs.Scopes.{names_of}
-use Rattle.vlog_meaning.specs.Senses.{sense, assigned, fault, not_constant}
-use Rattle.vlog_meaning.proofs.Firsts.{least_none}
-use Rattle.vlog_meaning.proofs.Refusals.{kept, passed}
-use Rattle.elab_proc.proofs.SideLemmas.{context_is}
 use Rattle.process_latches.proofs.Initials.{only_faults}
 use Rattle.process_latches.proofs.initial.value_fault.Goals as goal
 

@@ -1,5 +1,4 @@
-use Rattle.vlog_meaning.specs.Scopes.{names_of}
-use Rattle.vlog_meaning.specs.Senses.{sense, assigned, constant_faults_at}
+use Rattle.process_latches.proofs.Common.{names_of, sense, assigned, constant_faults_at}
 use Rattle.process_latches.proofs.Initials.{no_signal, signal_first, constant_first}
 use Rattle.process_latches.proofs.initial.value_refusal.Goals as goal
 

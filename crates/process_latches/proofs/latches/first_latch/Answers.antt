@@ -1,7 +1,4 @@
-use Rattle.std.proofs.Common.{◌∙◌, sym, ap, add-one, arith}
-use Rattle.std.specs.Option.{option_map}
-use Rattle.process_latches.specs.Latching.{first_latch}
-use Rattle.process_latches.specs.Writes.{target_of}
+use Rattle.process_latches.proofs.Common.{◌∙◌, sym, ap, add-one, arith, option_map, first_latch, target_of}
 use Rattle.process_latches.proofs.Latching.{passed, passed_none, passed_more, latch_is}
 use Rattle.process_latches.proofs.latches.first_latch.Goals as goal
 

@@ -1,4 +1,4 @@
-use Rattle.std.proofs.Common.{◌<◌, ◌^◌, ℕ, nat_eq, sym, ap, arith}
+use Rattle.process_latches.proofs.Common.{◌<◌, ◌^◌, ℕ, nat_eq, sym, ap, arith}
 use Rattle.std.proofs.lemmas.Nat.Bits.{bit_at_above}
 use Rattle.process_latches.proofs.latches.has_bit.Goals as goal
 

@@ -1,5 +1,4 @@
-use Rattle.std.specs.Option.{option_map}
-use Rattle.process_latches.specs.Writes.{target_of}
+use Rattle.process_latches.proofs.Common.{option_map, target_of}
 use Rattle.process_latches.proofs.Latching.{latch_stopped, latch_free}
 use Rattle.process_latches.proofs.latches.latch_in.Goals as goal
 

@@ -1,6 +1,4 @@
-use Rattle.vlog_meaning.specs.Scopes.{names_of}
-use Rattle.vlog_effects.specs.Steps.{steps_of}
-use Rattle.process_latches.specs.Sound.{sound}
+use Rattle.process_latches.proofs.Common.{names_of, steps_of, sound}
 use Rattle.process_latches.proofs.Choosing.{own_marks}
 use Rattle.process_latches.proofs.latches.latch_of.Goals as goal
 

@@ -1,6 +1,4 @@
-use Rattle.std.proofs.Common.{◌∙◌, sym}
-use Rattle.std.specs.Option.{option_map}
-use Rattle.process_latches.specs.Writes.{target_of}
+use Rattle.process_latches.proofs.Common.{◌∙◌, sym, option_map, target_of}
 use Rattle.process_latches.proofs.Latching.{latch_more, latch_skip}
 use Rattle.process_latches.proofs.latches.or_latch.Goals as goal
 

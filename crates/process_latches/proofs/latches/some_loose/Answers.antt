@@ -1,6 +1,4 @@
-use Rattle.std.proofs.Common.{◌≡◌, ◌∙◌, Bool, not, ◌||◌, ℕ, ap, subst, add-one, arith}
-use Rattle.vlog_effects.specs.Latches.{some_bit}
-use Rattle.signal_masks.specs.Masks.{has_bit}
+use Rattle.process_latches.proofs.Common.{◌≡◌, ◌∙◌, Bool, not, ◌||◌, ℕ, ap, subst, add-one, arith, some_bit, has_bit}
 use Rattle.process_latches.proofs.latches.some_loose.Goals as goal
 
 pub loop-place-preserved : goal.loop-place-preserved

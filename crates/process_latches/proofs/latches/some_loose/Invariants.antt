@@ -1,6 +1,4 @@
-use Rattle.std.proofs.Common.{◌≡◌, not, ◌||◌}
-use Rattle.vlog_effects.specs.Latches.{some_bit}
-use Rattle.signal_masks.specs.Masks.{has_bit}
+use Rattle.process_latches.proofs.Common.{◌≡◌, not, ◌||◌, some_bit, has_bit}
 use Rattle.process_latches.proofs.latches.some_loose.Given as goal
 
 abbrev pub invariant-loop-place : goal.invariant-loop-place

@@ -1,6 +1,4 @@
-use Rattle.std.proofs.Common.{add-one, arith}
-use Rattle.vlog_meaning.specs.Scopes.{names_of}
-use Rattle.vlog_effects.specs.LeftSides.{Whole, Bit, Range, Indexed}
+use Rattle.process_latches.proofs.Common.{add-one, arith, names_of, Whole, Bit, Range, Indexed}
 use Rattle.process_latches.proofs.Fitting.{is_name, is_bit, is_range, is_indexed}
 use Rattle.process_latches.proofs.Parts.{parts_more}
 use Rattle.process_latches.proofs.left.+parts.Goals as goal

@@ -1,8 +1,4 @@
-use Rattle.std.proofs.Common.{map, take}
-use Rattle.vlog_meaning.specs.Scopes.{names_of}
-use Rattle.vlog_effects.specs.LeftSides.{parts_of, concatenated}
-use Rattle.process_latches.specs.Marking.{PartsAdded}
-use Rattle.process_latches.specs.Sound.{sound_part}
+use Rattle.process_latches.proofs.Common.{map, take, names_of, parts_of, concatenated, PartsAdded, sound_part}
 use Rattle.process_latches.proofs.left.+parts.Given as goal
 
 abbrev pub invariant-mark_lefts-loop-left : goal.invariant-mark_lefts-loop-left

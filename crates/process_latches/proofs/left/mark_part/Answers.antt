@@ -1,4 +1,4 @@
-use Rattle.vlog_meaning.specs.Scopes.{names_of}
+use Rattle.process_latches.proofs.Common.{names_of}
 use Rattle.process_latches.proofs.Parts.{part_added}
 use Rattle.process_latches.proofs.left.mark_part.Goals as goal
 

@@ -1,12 +1,4 @@
-use Rattle.std.proofs.Common.{◌≡◌, [], ◌∙◌, sym, ap, subst}
-use Rattle.std.proofs.lemmas.Result.{on_ok_weaker}
-use Rattle.vlog_syntax.specs.declared.expr.Expr.{Expr}
-use Rattle.vlog_meaning.specs.Answers.{least}
-use Rattle.vlog_meaning.specs.Scopes.{names_of}
-use Rattle.vlog_meaning.specs.Senses.{IsWhole}
-use Rattle.vlog_meaning.proofs.Blanks.{left_nil, these_nil}
-use Rattle.vlog_meaning.proofs.Firsts.{least_none}
-use Rattle.elab_proc.specs.Refusals.{own_faults}
+use Rattle.process_latches.proofs.Common.{◌≡◌, [], ◌∙◌, sym, ap, subst, on_ok_weaker, Expr, least, names_of, IsWhole, left_nil, these_nil, least_none, own_faults}
 use Rattle.process_latches.proofs.Fitting.{fit_part, sound_whole, sound_name}
 use Rattle.process_latches.proofs.Parts.{bits_as}
 use Rattle.process_latches.proofs.left.mark_select.Goals as goal

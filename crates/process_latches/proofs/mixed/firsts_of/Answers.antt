@@ -1,6 +1,4 @@
-use Rattle.std.proofs.Common.{List, add-one, arith, subst, sym}
-use Rattle.process_latches.specs.declared.marks.Write.{Write}
-use Rattle.process_latches.specs.Mixed.{HasFirsts}
+use Rattle.process_latches.proofs.Common.{List, add-one, arith, subst, sym, Write, HasFirsts}
 use Rattle.process_latches.proofs.Latching.{passed, passed_none, passed_more, passed_all}
 use Rattle.process_latches.proofs.Mixing.{firsts_none}
 use Rattle.process_latches.proofs.mixed.firsts_of.Goals as goal

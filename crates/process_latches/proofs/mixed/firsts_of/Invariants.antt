@@ -1,4 +1,4 @@
-use Rattle.process_latches.specs.Mixed.{HasFirsts}
+use Rattle.process_latches.proofs.Common.{HasFirsts}
 use Rattle.process_latches.proofs.Latching.{passed}
 use Rattle.process_latches.proofs.mixed.firsts_of.Given as goal
 

@@ -1,4 +1,4 @@
-use Rattle.std.proofs.Common.{add-one, arith}
+use Rattle.process_latches.proofs.Common.{add-one, arith}
 use Rattle.process_latches.proofs.Mixing.{mixed_more}
 use Rattle.process_latches.proofs.mixed.mixed_refusal.Goals as goal
 

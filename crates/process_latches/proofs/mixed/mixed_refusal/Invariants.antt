@@ -1,7 +1,4 @@
-use Rattle.std.proofs.Common.{take}
-use Rattle.std.specs.List.{flat_map}
-use Rattle.elab_proc.specs.Order.{IsFirst}
-use Rattle.process_latches.specs.Mixed.{mixed_at}
+use Rattle.process_latches.proofs.Common.{take, flat_map, IsFirst, mixed_at}
 use Rattle.process_latches.proofs.mixed.mixed_refusal.Given as goal
 
 abbrev pub invariant-loop-write : goal.invariant-loop-write

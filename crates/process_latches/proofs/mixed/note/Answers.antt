@@ -1,5 +1,4 @@
-use Rattle.std.proofs.Common.{◌∙◌, ap, sym}
-use Rattle.process_latches.specs.Mixed.{lesser}
+use Rattle.process_latches.proofs.Common.{◌∙◌, ap, sym, lesser}
 use Rattle.process_latches.proofs.Mixing.{firsts_skip, firsts_more}
 use Rattle.process_latches.proofs.mixed.note.Goals as goal
 

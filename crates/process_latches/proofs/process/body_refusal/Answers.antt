@@ -1,6 +1,4 @@
-use Rattle.std.proofs.Common.{sym, subst}
-use Rattle.vlog_meaning.specs.Scopes.{names_of}
-use Rattle.elab_proc.specs.Refusals.{AreSized}
+use Rattle.process_latches.proofs.Common.{sym, subst, names_of, AreSized}
 use Rattle.process_latches.proofs.Refusing.{body_first}
 use Rattle.process_latches.proofs.process.body_refusal.Goals as goal
 

@@ -1,10 +1,4 @@
-use Rattle.std.proofs.Common.{List, add-one, arith, subst, sym, take}
-use Rattle.std.specs.List.{flat_map}
-use Rattle.vlog_meaning.specs.Scopes.{names_of}
-use Rattle.elab_proc.specs.declared.refusal.Refusal.{Refusal}
-use Rattle.elab_proc.specs.Order.{IsFirst}
-use Rattle.elab_proc.proofs.Lists.{flat_take}
-use Rattle.process_latches.specs.Refused.{event_refusals}
+use Rattle.process_latches.proofs.Common.{List, add-one, arith, subst, sym, take, flat_map, names_of, Refusal, IsFirst, flat_take, event_refusals}
 use Rattle.process_latches.proofs.process.events_refusal.Goals as goal
 
 pub loop-event-preserved : goal.loop-event-preserved

@@ -1,8 +1,4 @@
-use Rattle.std.proofs.Common.{Bool, sym, subst}
-use Rattle.std.specs.Prelude.{Option}
-use Rattle.vlog_effects.specs.Latches.{Target}
-use Rattle.elab_proc.specs.Order.{IsFirst}
-use Rattle.process_latches.specs.Refused.{latch_refusal, latch_refusals}
+use Rattle.process_latches.proofs.Common.{Bool, sym, subst, Option, Target, IsFirst, latch_refusal, latch_refusals}
 use Rattle.process_latches.proofs.process.latch_refusal.Goals as goal
 
 pub returns-then-is_combinational : goal.returns-then-is_combinational

@@ -1,26 +1,14 @@
-use Rattle.std.proofs.Common.{◌∙◌, ◌<◌, ◌∷◌, [], ℕ, map, take, length, refl, sym, ap, subst, arith, add-one, rules, false}
-use Rattle.std.specs.Prelude.{None, Some, Option, IfSome}
-use Rattle.std.specs.List.{flat_map}
-use Rattle.std.proofs.lemmas.Result.{on_ok_weaker}
-use Rattle.mcy_base.specs.declared.word.Word.{Word}
-use Rattle.vlog_syntax.specs.declared.left_side.LeftSide.TheViews.{the_lemmas as left_lemmas}
+use Rattle.process_latches.proofs.Common.{◌∙◌, ◌<◌, ◌∷◌, [], ℕ, map, take, length, refl, sym, ap, subst, arith, add-one, rules, false, None, Some, Option, IfSome, flat_map, on_ok_weaker, Word}
+use Rattle.process_latches.proofs.Common.{left_lemmas, Decl, Constant, Names, names_of, with_name, these_nil, least_none, item_steps, followed, steps_of, labelled, AreSized, case_faults, labels_in}
+use Rattle.process_latches.proofs.Common.{loop_of, IsMarkedTurn, AreArms}
 use Rattle.vlog_syntax.specs.declared.stmt.Stmt.TheViews.{the_lemmas}
-use Rattle.vlog_meaning.specs.declared.scope.Decl.{Decl}
-use Rattle.vlog_meaning.specs.declared.scope.Decl.TheVariants.{Constant}
-use Rattle.vlog_meaning.specs.Scopes.{Names, names_of, with_name}
-use Rattle.vlog_meaning.proofs.Blanks.{these_nil}
-use Rattle.vlog_meaning.proofs.Firsts.{least_none}
-use Rattle.vlog_effects.specs.Laws.{item_steps}
-use Rattle.vlog_effects.specs.Steps.{followed, steps_of, labelled}
-use Rattle.elab_proc.specs.Refusals.{AreSized, case_faults, labels_in}
-use Rattle.elab_proc.specs.Turns.{loop_of}
 use Rattle.elab_proc.proofs.TurnLemmas.{sized_after, some_after, alike_after, put_back, turn_goes}
-use Rattle.process_latches.specs.Turning.{IsMarkedTurn, AreArms}
 use Rattle.process_latches.proofs.Adding.{added_none}
 use Rattle.process_latches.proofs.Bodies.{bodies_start, bodies_on, bodies_end, case_stopped}
 use Rattle.process_latches.proofs.Choosing.{case_marked, arms_start, arms_skip, arms_more, arms_end, last_own, last_none}
 use Rattle.process_latches.proofs.Turning.{fails_marked, ends_marked, stops_marked, leads_on, leads_end, leads_none}
-use Rattle.process_latches.proofs.Walking.{continues_start, continues_on, continues_end, block_marked, stmt_case, stmt_loop, stmt_blocking, stmt_nonblocking, stmt_null, stmt_while, stmt_repeat, stmt_forever, stmt_event, stmt_delay, stmt_task, choice_both, choice_one, start_none, start_constant, start_fails, start_goes, start_no_name}
+use Rattle.process_latches.proofs.Walking.{continues_start, continues_on, continues_end, block_marked, stmt_case, stmt_loop, stmt_blocking, stmt_nonblocking, stmt_null, stmt_while, stmt_repeat}
+use Rattle.process_latches.proofs.Walking.{stmt_forever, stmt_event, stmt_delay, stmt_task, choice_both, choice_one, start_none, start_constant, start_fails, start_goes, start_no_name}
 use Rattle.process_latches.proofs.walk.+walk.Goals as goal
 
 pub mark_block-mark-requires : goal.mark_block-mark-requires

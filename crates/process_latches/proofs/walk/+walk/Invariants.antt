@@ -1,11 +1,5 @@
-use Rattle.std.proofs.Common.{◌≡◌, ◌≤◌, ◌+◌, ◌*◌, map, take}
-use Rattle.std.specs.Prelude.{IsSome}
+use Rattle.process_latches.proofs.Common.{◌≡◌, ◌≤◌, ◌+◌, ◌*◌, map, take, IsSome, Names, names_of, item_steps, steps_of, labelled, AreSized, loop_of, AlikeBut}
 use Rattle.vlog_syntax.specs.declared.stmt.Stmt.TheViews.{size-Stmt}
-use Rattle.vlog_meaning.specs.Scopes.{Names, names_of}
-use Rattle.vlog_effects.specs.Laws.{item_steps}
-use Rattle.vlog_effects.specs.Steps.{steps_of, labelled}
-use Rattle.elab_proc.specs.Refusals.{AreSized}
-use Rattle.elab_proc.specs.Turns.{loop_of, AlikeBut}
 use Rattle.process_latches.proofs.Bodies.{Continues as Bodies}
 use Rattle.process_latches.proofs.Choosing.{ArmsSoFar}
 use Rattle.process_latches.proofs.Turning.{Leads}

@@ -1,4 +1,4 @@
-use Rattle.vlog_meaning.specs.Scopes.{names_of}
+use Rattle.process_latches.proofs.Common.{names_of}
 use Rattle.process_latches.proofs.Turning.{last_ends, last_more, last_fails}
 use Rattle.process_latches.proofs.walk.mark_last_test.Goals as goal
 

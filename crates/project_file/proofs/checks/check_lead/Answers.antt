@@ -1,6 +1,4 @@
-use Rattle.std.proofs.Common.{Bor, List, ℕ, sym, ◌∙◌}
-use Rattle.project_file.specs.Projects.{lead_fault}
-use Rattle.project_lines.proofs.Faults.{fault_end, fault_here, fault_step}
+use Rattle.project_file.proofs.Common.{Bor, List, ℕ, sym, ◌∙◌, lead_fault, fault_end, fault_here, fault_step}
 use Rattle.project_file.proofs.Parts.{lead_good, lead_bad}
 use Rattle.project_file.proofs.checks.check_lead.Goals as goal
 

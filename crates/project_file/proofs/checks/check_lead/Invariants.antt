@@ -1,6 +1,4 @@
-use Rattle.std.proofs.Common.{◌≡◌, ◌+◌, [], drop, map, take}
-use Rattle.project_lines.specs.Checks.{first_fault}
-use Rattle.project_file.specs.Projects.{lead_fault}
+use Rattle.project_file.proofs.Common.{◌≡◌, ◌+◌, [], drop, map, take, first_fault, lead_fault}
 use Rattle.project_file.proofs.checks.check_lead.Given as goal
 
 abbrev pub invariant-loop-i : goal.invariant-loop-i

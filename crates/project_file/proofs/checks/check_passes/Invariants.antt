@@ -1,6 +1,4 @@
-use Rattle.std.proofs.Common.{◌≡◌, drop, map}
-use Rattle.project_file.specs.Projects.{missing_pass}
-use Rattle.project_lines.specs.Sections.{seen}
+use Rattle.project_file.proofs.Common.{◌≡◌, drop, map, missing_pass, seen}
 use Rattle.project_file.proofs.checks.check_passes.Given as goal
 
 abbrev pub invariant-loop-i : goal.invariant-loop-i

@@ -1,9 +1,4 @@
-use Rattle.std.proofs.Common.{◌≡◌, Some, None, sym, ◌∙◌, [], map, take, subst}
-use Rattle.project_lines.specs.Paths.{with_names}
-use Rattle.project_options.specs.Options.{around_of}
-use Rattle.project_file.specs.Projects.{part_at, part_fault, part_reads}
-use Rattle.project_lines.specs.Sections.{seen}
-use Rattle.project_lines.proofs.Faults.{checks_err, fault_end, fault_here, fault_step}
+use Rattle.project_file.proofs.Common.{◌≡◌, Some, None, sym, ◌∙◌, [], map, take, subst, with_names, around_of, part_at, part_fault, part_reads, seen, checks_err, fault_end, fault_here, fault_step}
 use Rattle.project_lines.proofs.Reading.{reads_step}
 use Rattle.project_file.proofs.Parts.{part_same}
 use Rattle.project_file.proofs.checks.check_sections.Goals as goal

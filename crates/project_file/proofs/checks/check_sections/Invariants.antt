@@ -1,9 +1,4 @@
-use Rattle.std.proofs.Common.{◌≡◌, ◌+◌, [], drop, map, take}
-use Rattle.project_lines.specs.Checks.{first_fault}
-use Rattle.project_lines.specs.Paths.{gather, with_names}
-use Rattle.project_options.specs.Options.{around_of}
-use Rattle.project_file.specs.Projects.{part_fault, part_reads}
-use Rattle.project_lines.specs.Sections.{seen}
+use Rattle.project_file.proofs.Common.{◌≡◌, ◌+◌, [], drop, map, take, first_fault, gather, with_names, around_of, part_fault, part_reads, seen}
 use Rattle.project_file.proofs.checks.check_sections.Given as goal
 
 abbrev pub invariant-loop-i : goal.invariant-loop-i

@@ -1,5 +1,4 @@
-use Rattle.std.proofs.Common.{◌≡◌, ◌+◌, ◌++◌, drop, map}
-use Rattle.project_file.specs.Projects.{numbered}
+use Rattle.project_file.proofs.Common.{◌≡◌, ◌+◌, ◌++◌, drop, map, numbered}
 use Rattle.project_file.proofs.read.numbered.Given as goal
 
 abbrev pub invariant-loop-i : goal.invariant-loop-i

@@ -1,6 +1,4 @@
-use Rattle.std.proofs.Common.{◌≡◌, map, take}
-use Rattle.project_file.specs.Projects.{test_of}
-use Rattle.project_lines.specs.Sections.{seen}
+use Rattle.project_file.proofs.Common.{◌≡◌, map, take, test_of, seen}
 use Rattle.project_file.proofs.read.plans_of.Given as goal
 
 abbrev pub invariant-loop-test : goal.invariant-loop-test

@@ -1,7 +1,6 @@
-use Rattle.std.proofs.Common.{List, ℕ, Bor, rules, tests, sym, ◌∙◌}
+use Rattle.project_file.proofs.Common.{List, ℕ, Bor, rules, tests, sym, ◌∙◌, is_answer}
 use Rattle.std.proofs.lemmas.Iterator.{YieldsList-from_slice}
 use Rattle.std.proofs.lemmas.Iterator.Search.{all_from_yields_List}
-use Rattle.project_file.specs.Tests.{is_answer}
 use Rattle.project_lines.proofs.Maps.{all_map}
 use Rattle.project_file.proofs.test_plan.are_answers.Goals as goal
 

@@ -1,6 +1,4 @@
-use Rattle.std.proofs.Common.{Bor, List, ℕ, sym, ◌∙◌}
-use Rattle.project_file.specs.Tests.{test_fault, test_reads}
-use Rattle.project_lines.proofs.Faults.{checks_err, fault_end, fault_here, fault_step}
+use Rattle.project_file.proofs.Common.{Bor, List, ℕ, sym, ◌∙◌, test_fault, test_reads, checks_err, fault_end, fault_here, fault_step}
 use Rattle.project_lines.proofs.Reading.{reads_step}
 use Rattle.project_file.proofs.Parts.{test_same}
 use Rattle.project_file.proofs.test_plan.check_test.Goals as goal

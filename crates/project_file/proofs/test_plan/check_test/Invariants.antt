@@ -1,7 +1,4 @@
-use Rattle.std.proofs.Common.{◌≡◌, ◌+◌, [], drop, map, take}
-use Rattle.project_lines.specs.Checks.{first_fault}
-use Rattle.project_lines.specs.Paths.{gather, with_names}
-use Rattle.project_file.specs.Tests.{test_fault, test_reads}
+use Rattle.project_file.proofs.Common.{◌≡◌, ◌+◌, [], drop, map, take, first_fault, gather, with_names, test_fault, test_reads}
 use Rattle.project_file.proofs.test_plan.check_test.Given as goal
 
 abbrev pub invariant-loop-i : goal.invariant-loop-i

@@ -1,5 +1,4 @@
-use Rattle.std.proofs.Common.{◌≡◌, map, take}
-use Rattle.project_lines.specs.Paths.{paths_in}
+use Rattle.project_file.proofs.Common.{◌≡◌, map, take, paths_in}
 use Rattle.project_file.specs.Values.{range_of}
 use Rattle.project_file.proofs.values.ranges_of.Given as goal
 

@@ -1,5 +1,4 @@
-use Rattle.std.proofs.Common.{◌≡◌, drop, map}
-use Rattle.project_lines.specs.Lines.{find_line}
+use Rattle.project_lines.proofs.Common.{◌≡◌, drop, map, find_line}
 use Rattle.project_lines.proofs.lines.find_line.Given as goal
 
 abbrev pub invariant-loop-line : goal.invariant-loop-line

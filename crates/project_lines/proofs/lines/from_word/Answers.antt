@@ -1,10 +1,5 @@
-use Rattle.std.proofs.Common.{◌≡◌, rules, tests, drop, ap, ◌∙◌, subst, sym, IsCharBoundary}
-use Rattle.std.specs.List.{prefix_len}
-use Rattle.std.proofs.lemmas.Iterator.{YieldsList-from_slice}
-use Rattle.std.proofs.lemmas.Iterator.Consumers.{count_from_yields_List}
-use Rattle.std.proofs.lemmas.Iterator.Search.{YieldsList-from_take_while}
-use Rattle.std.proofs.lemmas.List.Folds.{length-prefix_len}
-use Rattle.project_lines.specs.Lines.{from_word, is_blank}
+use Rattle.project_lines.proofs.Common.{◌≡◌, rules, tests, drop, ap, ◌∙◌, subst, sym, IsCharBoundary, prefix_len, YieldsList-from_slice, count_from_yields_List, YieldsList-from_take_while}
+use Rattle.project_lines.proofs.Common.{length-prefix_len, from_word, is_blank}
 use Rattle.project_lines.proofs.Texts.{boundary-from_word}
 use Rattle.project_lines.proofs.lines.from_word.Goals as goal
 

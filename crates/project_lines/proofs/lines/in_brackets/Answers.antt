@@ -1,5 +1,4 @@
-use Rattle.std.proofs.Common.{arith}
-use Rattle.std.proofs.lemmas.Str.{IsCharBoundary-after_ascii}
+use Rattle.project_lines.proofs.Common.{arith, IsCharBoundary-after_ascii}
 use Rattle.project_lines.proofs.lines.in_brackets.Goals as goal
 
 pub split_at-requires : goal.split_at-requires

@@ -1,4 +1,4 @@
-use Rattle.std.proofs.lemmas.Iterator.Consumers.{map_from_collect}
+use Rattle.project_lines.proofs.Common.{map_from_collect}
 use Rattle.std.proofs.lemmas.Iterator.Splits.{YieldsList-from_lines}
 use Rattle.project_lines.proofs.lines.text_lines.Goals as goal
 

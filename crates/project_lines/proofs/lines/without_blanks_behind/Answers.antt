@@ -1,5 +1,4 @@
-use Rattle.std.proofs.Common.{◌≡◌, rules, arith, ◌∙◌, le_refl, subst, take, IsCharBoundary}
-use Rattle.project_lines.specs.Lines.{without_blanks_behind}
+use Rattle.project_lines.proofs.Common.{◌≡◌, rules, arith, ◌∙◌, le_refl, subst, take, IsCharBoundary, without_blanks_behind}
 use Rattle.project_lines.proofs.Texts.{boundary-before_blank, trimmed-is}
 use Rattle.project_lines.proofs.lines.without_blanks_behind.Goals as goal
 use Rattle.project_lines.proofs.lines.without_blanks_behind.Goals.{then-loop-end-test+else-is_blank, else-loop-end-test}

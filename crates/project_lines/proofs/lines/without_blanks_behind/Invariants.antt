@@ -1,5 +1,4 @@
-use Rattle.std.proofs.Common.{◌≡◌, ℕ, ◌<◌, ◌≤◌, true, length, get_or}
-use Rattle.project_lines.specs.Lines.{is_blank}
+use Rattle.project_lines.proofs.Common.{◌≡◌, ℕ, ◌<◌, ◌≤◌, true, length, get_or, is_blank}
 use Rattle.project_lines.proofs.lines.without_blanks_behind.Given as goal
 
 abbrev pub invariant-loop-end : goal.invariant-loop-end

@@ -1,8 +1,5 @@
-use Rattle.std.proofs.Common.{◌≡◌, List, ℕ, ◌<◌, [], ◌∷◌, ◌++◌, Bor, rules, arith, ap, ap₂, ◌∙◌, sym, subst, length, map, append-nil}
-use Rattle.std.specs.List.{prefix_len}
-use Rattle.std.proofs.lemmas.Bool.Decides.{nat_tests}
-use Rattle.std.proofs.lemmas.List.{map-append}
-use Rattle.project_lines.specs.Lines.{is_blank, words, behind_word, from_word}
+use Rattle.project_lines.proofs.Common.{◌≡◌, List, ℕ, ◌<◌, [], ◌∷◌, ◌++◌, Bor, rules, arith, ap, ap₂, ◌∙◌, sym, subst, length, map, append-nil, prefix_len, nat_tests, map-append, is_blank, words}
+use Rattle.project_lines.proofs.Common.{behind_word, from_word}
 use Rattle.project_lines.proofs.Texts.{words-from_word, blanks-from_word, words-more, words-none, word-filled}
 use Rattle.project_lines.proofs.lines.words.Goals as goal
 

@@ -1,8 +1,6 @@
 use denote.Shadow.{shadow}
 use denote.Text.{Utf8}
-use Rattle.std.proofs.Common.{◌≡◌, ◌++◌, length, map}
-use Rattle.std.specs.List.{prefix_len}
-use Rattle.project_lines.specs.Lines.{is_blank, words}
+use Rattle.project_lines.proofs.Common.{◌≡◌, ◌++◌, length, map, prefix_len, is_blank, words}
 use Rattle.project_lines.proofs.lines.words.Given as goal
 
 abbrev pub invariant-loop-rest : goal.invariant-loop-rest

@@ -1,4 +1,4 @@
-use Rattle.std.proofs.Common.{◌≡◌, ◌^◌, min, take}
+use Rattle.project_lines.proofs.Common.{◌≡◌, ◌^◌, min, take}
 use Rattle.project_lines.specs.Numbers.{value}
 use Rattle.project_lines.proofs.numbers.value.Given as goal
 

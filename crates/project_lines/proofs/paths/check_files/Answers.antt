@@ -1,5 +1,4 @@
-use Rattle.std.proofs.Common.{rules, Bor, List, ℕ, sym, ◌∙◌}
-use Rattle.project_lines.specs.Paths.{files_fault}
+use Rattle.project_lines.proofs.Common.{rules, Bor, List, ℕ, sym, ◌∙◌, files_fault}
 use Rattle.project_lines.proofs.Faults.{checks_err, fault_end, fault_here, fault_step}
 use Rattle.project_lines.proofs.Finding.{no_lines}
 use Rattle.project_lines.proofs.Reading.{files_same, paths_step}

@@ -1,6 +1,4 @@
-use Rattle.std.proofs.Common.{◌≡◌, ◌+◌, [], drop, map, take}
-use Rattle.project_lines.specs.Checks.{first_fault}
-use Rattle.project_lines.specs.Paths.{files_fault, find_path, paths_in}
+use Rattle.project_lines.proofs.Common.{◌≡◌, ◌+◌, [], drop, map, take, first_fault, files_fault, find_path, paths_in}
 use Rattle.project_lines.proofs.paths.check_files.Given as goal
 
 abbrev pub invariant-loop-i : goal.invariant-loop-i

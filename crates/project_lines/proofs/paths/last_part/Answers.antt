@@ -1,4 +1,4 @@
-use Rattle.std.proofs.Common.{rules, arith}
+use Rattle.project_lines.proofs.Common.{rules, arith}
 use Rattle.project_lines.proofs.Texts.{part-is}
 use Rattle.project_lines.proofs.paths.last_part.Goals as goal
 use Rattle.project_lines.proofs.paths.last_part.Goals.{then-loop-start-test+else-path-start-ne47, else-loop-start-test}

@@ -1,4 +1,4 @@
-use Rattle.std.proofs.Common.{◌≢◌, ℕ, ◌<◌, ◌≤◌, length, get_or}
+use Rattle.project_lines.proofs.Common.{◌≢◌, ℕ, ◌<◌, ◌≤◌, length, get_or}
 use Rattle.project_lines.proofs.paths.last_part.Given as goal
 
 abbrev pub invariant-loop-start : goal.invariant-loop-start

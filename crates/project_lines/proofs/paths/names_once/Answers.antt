@@ -1,5 +1,4 @@
-use Rattle.std.proofs.Common.{◌≡◌, ◌<◌, ◌+◌, List, [], ◌∷◌, ◌++◌, ℕ, ap, sym, ◌∙◌, add-one, get_or, length, take, take-suc, rules}
-use Rattle.project_lines.specs.Paths.{with_name, with_names}
+use Rattle.project_lines.proofs.Common.{◌≡◌, ◌<◌, ◌+◌, List, [], ◌∷◌, ◌++◌, ℕ, ap, sym, ◌∙◌, add-one, get_or, length, take, take-suc, rules, with_name, with_names}
 use Rattle.project_lines.proofs.Reading.{names_push_one}
 use Rattle.project_lines.proofs.paths.names_once.Goals as goal
 

@@ -1,5 +1,4 @@
-use Rattle.std.proofs.Common.{◌≡◌, [], take}
-use Rattle.project_lines.specs.Paths.{with_names}
+use Rattle.project_lines.proofs.Common.{◌≡◌, [], take, with_names}
 use Rattle.project_lines.proofs.paths.names_once.Given as goal
 
 abbrev pub invariant-loop-name : goal.invariant-loop-name

@@ -1,6 +1,4 @@
-use Rattle.std.proofs.Common.{◌≡◌, ◌++◌, drop, map}
-use Rattle.project_lines.specs.Paths.{gather, paths_in}
-use Rattle.project_lines.specs.Scripts.{script_reads}
+use Rattle.project_lines.proofs.Common.{◌≡◌, ◌++◌, drop, map, gather, paths_in, script_reads}
 use Rattle.project_lines.proofs.script.all_reads.Given as goal
 
 abbrev pub invariant-loop-line : goal.invariant-loop-line

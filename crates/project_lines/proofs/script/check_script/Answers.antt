@@ -1,6 +1,4 @@
-use Rattle.std.proofs.Common.{Bor, List, ℕ, sym, ◌∙◌}
-use Rattle.project_lines.specs.Paths.{paths_in}
-use Rattle.project_lines.specs.Scripts.{script_fault, script_reads}
+use Rattle.project_lines.proofs.Common.{Bor, List, ℕ, sym, ◌∙◌, paths_in, script_fault, script_reads}
 use Rattle.project_lines.proofs.Faults.{checks_err, fault_end, fault_here, fault_step}
 use Rattle.project_lines.proofs.Reading.{reads_step, script_same, tops_step}
 use Rattle.project_lines.proofs.script.check_script.Goals as goal

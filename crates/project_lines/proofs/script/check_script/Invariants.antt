@@ -1,7 +1,4 @@
-use Rattle.std.proofs.Common.{◌≡◌, ◌+◌, [], drop, map, option_map, take}
-use Rattle.project_lines.specs.Checks.{first_fault}
-use Rattle.project_lines.specs.Paths.{gather, paths_in, with_names}
-use Rattle.project_lines.specs.Scripts.{first_top, script_fault, script_reads}
+use Rattle.project_lines.proofs.Common.{◌≡◌, ◌+◌, [], drop, map, option_map, take, first_fault, gather, paths_in, with_names, first_top, script_fault, script_reads}
 use Rattle.project_lines.proofs.script.check_script.Given as goal
 
 abbrev pub invariant-loop-i : goal.invariant-loop-i

@@ -1,5 +1,4 @@
-use Rattle.std.proofs.Common.{◌≡◌, drop, map}
-use Rattle.project_lines.specs.Scripts.{first_top}
+use Rattle.project_lines.proofs.Common.{◌≡◌, drop, map, first_top}
 use Rattle.project_lines.proofs.script.first_top.Given as goal
 
 abbrev pub invariant-loop-line : goal.invariant-loop-line

@@ -1,5 +1,4 @@
-use Rattle.std.proofs.Common.{◌≡◌, drop, map}
-use Rattle.project_lines.specs.Scripts.{has_strange}
+use Rattle.project_lines.proofs.Common.{◌≡◌, drop, map, has_strange}
 use Rattle.project_lines.proofs.script.has_strange.Given as goal
 
 abbrev pub invariant-loop-word : goal.invariant-loop-word

@@ -1,5 +1,4 @@
-use Rattle.std.proofs.Common.{◌≡◌, ◌+◌, ◌++◌, drop, map}
-use Rattle.project_lines.specs.Sections.{parts_of, seen}
+use Rattle.project_lines.proofs.Common.{◌≡◌, ◌+◌, ◌++◌, drop, map, parts_of, seen}
 use Rattle.project_lines.proofs.sections.all_sections.Given as goal
 
 abbrev pub invariant-loop-i : goal.invariant-loop-i

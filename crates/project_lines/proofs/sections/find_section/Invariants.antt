@@ -1,5 +1,4 @@
-use Rattle.std.proofs.Common.{◌≡◌, drop, map}
-use Rattle.project_lines.specs.Sections.{find_part, seen}
+use Rattle.project_lines.proofs.Common.{◌≡◌, drop, map, find_part, seen}
 use Rattle.project_lines.proofs.sections.find_section.Given as goal
 
 abbrev pub invariant-loop-section : goal.invariant-loop-section

@@ -1,5 +1,4 @@
-use Rattle.std.proofs.Common.{◌≡◌, drop, map}
-use Rattle.project_lines.specs.Sections.{has_header, seen}
+use Rattle.project_lines.proofs.Common.{◌≡◌, drop, map, has_header, seen}
 use Rattle.project_lines.proofs.sections.has_header.Given as goal
 
 abbrev pub invariant-loop-section : goal.invariant-loop-section

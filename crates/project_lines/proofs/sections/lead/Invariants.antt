@@ -1,5 +1,4 @@
-use Rattle.std.proofs.Common.{◌≡◌, ◌++◌, drop, map, take}
-use Rattle.project_lines.specs.Sections.{lead}
+use Rattle.project_lines.proofs.Common.{◌≡◌, ◌++◌, drop, map, take, lead}
 use Rattle.project_lines.proofs.sections.lead.Given as goal
 
 abbrev pub invariant-loop-i : goal.invariant-loop-i

@@ -1,5 +1,4 @@
-use Rattle.std.proofs.Common.{◌≡◌, drop, map}
-use Rattle.project_lines.specs.Sections.{lines_in, seen}
+use Rattle.project_lines.proofs.Common.{◌≡◌, drop, map, lines_in, seen}
 use Rattle.project_lines.proofs.sections.lines_in.Given as goal
 
 abbrev pub invariant-loop-section : goal.invariant-loop-section

@@ -1,5 +1,4 @@
-use Rattle.std.proofs.Common.{◌≡◌, ◌++◌, drop, map}
-use Rattle.project_lines.specs.Sections.{seen, tests_in}
+use Rattle.project_lines.proofs.Common.{◌≡◌, ◌++◌, drop, map, seen, tests_in}
 use Rattle.project_lines.proofs.sections.tests_in.Given as goal
 
 abbrev pub invariant-loop-section : goal.invariant-loop-section

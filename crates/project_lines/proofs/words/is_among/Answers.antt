@@ -1,6 +1,4 @@
-use Rattle.std.proofs.Common.{List, ℕ, Bor, rules, tests, sym, ◌∙◌, bytes_eq}
-use Rattle.std.proofs.lemmas.Iterator.{YieldsList-from_slice}
-use Rattle.std.proofs.lemmas.Iterator.Search.{any_from_yields_List}
+use Rattle.project_lines.proofs.Common.{List, ℕ, Bor, rules, tests, sym, ◌∙◌, bytes_eq, YieldsList-from_slice, any_from_yields_List}
 use Rattle.project_lines.proofs.Maps.{any_map}
 use Rattle.project_lines.proofs.words.is_among.Goals as goal
 

@@ -1,4 +1,4 @@
-use Rattle.std.proofs.Common.{◌≡◌, map, take}
+use Rattle.project_lines.proofs.Common.{◌≡◌, map, take}
 use Rattle.project_lines.proofs.words.texts_of.Given as goal
 
 abbrev pub invariant-loop-word : goal.invariant-loop-word

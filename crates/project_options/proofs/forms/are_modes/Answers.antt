@@ -1,8 +1,4 @@
-use Rattle.std.proofs.Common.{List, ℕ, Bor, rules, tests, sym, ◌∙◌}
-use Rattle.std.proofs.lemmas.Iterator.{YieldsList-from_slice}
-use Rattle.std.proofs.lemmas.Iterator.Search.{all_from_yields_List}
-use Rattle.project_options.specs.Options.{is_mode}
-use Rattle.project_lines.proofs.Maps.{all_map}
+use Rattle.project_options.proofs.Common.{List, ℕ, Bor, rules, tests, sym, ◌∙◌, YieldsList-from_slice, all_from_yields_List, is_mode, all_map}
 use Rattle.project_options.proofs.forms.are_modes.Goals as goal
 
 pub returns : goal.returns

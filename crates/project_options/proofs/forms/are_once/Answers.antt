@@ -1,4 +1,4 @@
-use Rattle.std.proofs.Common.{sym, ◌∙◌}
+use Rattle.project_options.proofs.Common.{sym, ◌∙◌}
 use Rattle.project_options.proofs.Each.{once_step, once_twice}
 use Rattle.project_options.proofs.forms.are_once.Goals as goal
 

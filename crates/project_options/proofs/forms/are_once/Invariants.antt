@@ -1,5 +1,4 @@
-use Rattle.std.proofs.Common.{◌≡◌, drop, map}
-use Rattle.project_options.specs.Options.{are_once}
+use Rattle.project_options.proofs.Common.{◌≡◌, drop, map, are_once}
 use Rattle.project_options.proofs.forms.are_once.Given as goal
 
 abbrev pub invariant-loop-i : goal.invariant-loop-i

@@ -1,7 +1,5 @@
-use Rattle.std.proofs.Common.{lit<, rules, tests}
-use Rattle.std.proofs.lemmas.Iterator.Search.{all_from_yields_List}
+use Rattle.project_options.proofs.Common.{lit<, rules, tests, all_from_yields_List, is_inner_name, is_instance}
 use Rattle.std.proofs.lemmas.Iterator.Splits.{YieldsList-from_str_split}
-use Rattle.project_options.specs.Instances.{is_inner_name, is_instance}
 use Rattle.project_options.proofs.instances.is_instance.Goals as goal
 
 pub returns : goal.returns

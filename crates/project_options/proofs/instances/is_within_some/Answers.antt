@@ -1,7 +1,4 @@
-use Rattle.std.proofs.Common.{List, ℕ, rules, tests}
-use Rattle.std.proofs.lemmas.Iterator.{YieldsList-from_slice}
-use Rattle.std.proofs.lemmas.Iterator.Search.{any_from_yields_List}
-use Rattle.project_options.specs.Instances.{is_within}
+use Rattle.project_options.proofs.Common.{List, ℕ, rules, tests, YieldsList-from_slice, any_from_yields_List, is_within}
 use Rattle.project_options.proofs.instances.is_within_some.Goals as goal
 
 pub returns : goal.returns

@@ -1,8 +1,4 @@
-use Rattle.std.proofs.Common.{List, ℕ, Bor, rules, tests, sym, ◌∙◌, map}
-use Rattle.std.proofs.lemmas.Iterator.{YieldsList-from_slice}
-use Rattle.std.proofs.lemmas.Iterator.Search.{all_from_yields_List}
-use Rattle.project_lines.proofs.Maps.{all_map}
-use Rattle.project_lines.specs.Words.{is_among}
+use Rattle.project_options.proofs.Common.{List, ℕ, Bor, rules, tests, sym, ◌∙◌, map, YieldsList-from_slice, all_from_yields_List, all_map, is_among}
 use Rattle.project_options.proofs.options.are_among.Goals as goal
 
 pub returns : goal.returns

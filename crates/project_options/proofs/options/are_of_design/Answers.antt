@@ -1,5 +1,4 @@
-use Rattle.std.proofs.Common.{sym, ◌∙◌}
-use Rattle.project_options.specs.Options.{around_of, is_of_design}
+use Rattle.project_options.proofs.Common.{sym, ◌∙◌, around_of, is_of_design}
 use Rattle.project_options.proofs.Each.{all_fails, all_step}
 use Rattle.project_options.proofs.options.are_of_design.Goals as goal
 

@@ -1,6 +1,4 @@
-use Rattle.std.proofs.Common.{◌≡◌, drop, map}
-use Rattle.std.specs.List.{list_all}
-use Rattle.project_options.specs.Options.{around_of, is_of_design}
+use Rattle.project_options.proofs.Common.{◌≡◌, drop, map, list_all, around_of, is_of_design}
 use Rattle.project_options.proofs.options.are_of_design.Given as goal
 
 abbrev pub invariant-loop-word : goal.invariant-loop-word

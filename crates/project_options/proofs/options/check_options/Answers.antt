@@ -1,6 +1,4 @@
-use Rattle.std.proofs.Common.{Bor, List, ℕ}
-use Rattle.project_options.specs.Options.{around_of, option_fault}
-use Rattle.project_lines.proofs.Faults.{checks_err, fault_end, fault_here, fault_step}
+use Rattle.project_options.proofs.Common.{Bor, List, ℕ, around_of, option_fault, checks_err, fault_end, fault_here, fault_step}
 use Rattle.project_options.proofs.options.check_options.Goals as goal
 
 pub returns-in_err-check_option : goal.returns-in_err-check_option

@@ -1,6 +1,5 @@
-use Rattle.std.proofs.Common.{◌≡◌, ◌+◌, [], drop, map, take}
+use Rattle.project_options.proofs.Common.{◌≡◌, ◌+◌, [], drop, map, take, around_of, option_fault}
 use Rattle.project_lines.specs.Checks.{first_fault}
-use Rattle.project_options.specs.Options.{around_of, option_fault}
 use Rattle.project_options.proofs.options.check_options.Given as goal
 
 abbrev pub invariant-loop-i : goal.invariant-loop-i

@@ -1,5 +1,4 @@
-use Rattle.std.proofs.Common.{lit<}
-use Rattle.project_options.specs.Ranges.{file_part, lines_part}
+use Rattle.project_options.proofs.Common.{lit<, file_part, lines_part}
 use Rattle.project_options.proofs.Cuts.{last_cut, no_last}
 use Rattle.project_options.proofs.ranges.split_file.Goals as goal
 

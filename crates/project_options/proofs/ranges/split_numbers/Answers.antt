@@ -1,5 +1,4 @@
-use Rattle.std.proofs.Common.{lit<}
-use Rattle.project_options.specs.Ranges.{back_number, front_number}
+use Rattle.project_options.proofs.Common.{lit<, back_number, front_number}
 use Rattle.project_options.proofs.Cuts.{no_first}
 use Rattle.project_options.proofs.ranges.split_numbers.Goals as goal
 

@@ -1,11 +1,4 @@
-use Rattle.std.proofs.Common.{◌≤◌}
-use Rattle.std.proofs.lemmas.Result.{IfOk-weaker}
-use Rattle.netlist_core.specs.Checked.{Plan}
-use Rattle.equiv_test.specs.Jobs.{IsNew}
-use Rattle.campaign_plan.specs.declared.prepared.Prepared.{Prepared}
-use Rattle.campaign_plan.proofs.Plans.{plan_limits}
-use Rattle.campaign_core.specs.Testers.{Asked}
-use Rattle.project_tester.specs.ProjectJobs.{asked_of, lemma_turns, turns_in, IsComparing}
+use Rattle.project_tester.proofs.Common.{◌≤◌, IfOk-weaker, Plan, IsNew, Prepared, plan_limits, Asked, asked_of, lemma_turns, turns_in, IsComparing}
 use Rattle.project_tester.proofs.Equalities.{new_comparing, new_few}
 use Rattle.project_tester.proofs.Verdicts.{accepted_at}
 use Rattle.project_tester.proofs.equality.begin.Goals as goal

@@ -1,4 +1,4 @@
-use Rattle.std.proofs.lemmas.Result.{err_from_is_err_and}
+use Rattle.project_tester.proofs.Common.{err_from_is_err_and}
 use Rattle.project_tester.proofs.Equalities.{fewer_turns}
 use Rattle.project_tester.proofs.equality.compare.Goals as goal
 

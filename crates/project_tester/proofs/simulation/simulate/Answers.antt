@@ -1,4 +1,4 @@
-use Rattle.std.proofs.Common.{refl}
+use Rattle.project_tester.proofs.Common.{refl}
 use Rattle.project_tester.proofs.Simulations.{fewer_turns}
 use Rattle.project_tester.proofs.simulation.simulate.Goals as goal
 

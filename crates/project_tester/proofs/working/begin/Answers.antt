@@ -1,8 +1,4 @@
-use Rattle.std.proofs.Common.{◌≡◌, ◌<◌, length, slice_get, Some, ap, arith}
-use Rattle.campaign_plan.specs.declared.prepared.Prepared.{Prepared}
-use Rattle.campaign_plan.specs.declared.trial.Trial.TheVariants.{Equality, Simulation}
-use Rattle.campaign_plan.proofs.Fitted.{test_at}
-use Rattle.project_tester.specs.ProjectJobs.{asked_of}
+use Rattle.project_tester.proofs.Common.{◌≡◌, ◌<◌, length, slice_get, Some, ap, arith, Prepared, Equality, Simulation, test_at, asked_of}
 use Rattle.project_tester.proofs.Asking.{bound_within, test_within}
 use Rattle.project_tester.proofs.Equalities.{equality_begun}
 use Rattle.project_tester.proofs.Simulations.{bench_fits, simulation_begun}

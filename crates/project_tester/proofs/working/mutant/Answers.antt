@@ -1,12 +1,6 @@
-use Rattle.std.proofs.Common.{◌≡◌, ℕ, ◌<◌, ◌≤◌, List, length, get_or, Result, Ok, Err, IfOk, ap, arith}
-use Rattle.netlist_core.specs.declared.raw.RawNetlist.{RawNetlist}
-use Rattle.netlist_core.specs.Checked.{net_bits, Plan}
-use Rattle.mutation_sites.specs.declared.site.Site.{Site}
-use Rattle.mutation_sites.specs.Mutants.{HasEachRun, HasOneMore, HasSameNames, HasSameShapes, RunsAlike}
-use Rattle.campaign_plan.specs.declared.prepared.Prepared.{Prepared}
-use Rattle.campaign_run.specs.Rows.{IsBrokenAt}
+use Rattle.project_tester.proofs.Common.{◌≡◌, ℕ, ◌<◌, ◌≤◌, List, length, get_or, Result, Ok, Err, IfOk, ap, arith, RawNetlist, net_bits, Plan, Site, HasEachRun, HasOneMore, HasSameNames}
+use Rattle.project_tester.proofs.Common.{HasSameShapes, RunsAlike, Prepared, IsBrokenAt, plan_count, plan_nets, plan_site}
 use Rattle.project_tester.proofs.Verdicts.{broken_at}
-use Rattle.campaign_plan.proofs.Plans.{plan_count, plan_nets, plan_site}
 use Rattle.project_tester.proofs.working.mutant.Goals as goal
 
 pub bounds-as_slice-mutation : goal.bounds-as_slice-mutation

@@ -1,6 +1,4 @@
-use Rattle.std.proofs.Common.{refl}
-use Rattle.report_script.specs.Blocks.{body_in}
-use Rattle.report_script.specs.Checks.{project_of}
+use Rattle.report_script.proofs.Common.{refl, body_in, project_of}
 use Rattle.report_script.proofs.Lines.{part_fault, part_is, whole_end, whole_fault, whole_first, whole_more}
 use Rattle.report_script.proofs.block.+read.Goals as goal
 

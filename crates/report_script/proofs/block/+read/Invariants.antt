@@ -1,5 +1,4 @@
-use Rattle.std.proofs.Common.{◌+◌, ◌*◌, length}
-use Rattle.report_script.specs.Checks.{project_of}
+use Rattle.report_script.proofs.Common.{◌+◌, ◌*◌, length, project_of}
 use Rattle.report_script.proofs.Lines.{Whole}
 use Rattle.report_script.proofs.block.+read.Given as goal
 

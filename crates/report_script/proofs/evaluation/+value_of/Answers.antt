@@ -1,4 +1,4 @@
-use Rattle.std.proofs.Common.{◌∙◌, Ok, Err, sym, arith}
+use Rattle.report_script.proofs.Common.{◌∙◌, Ok, Err, sym, arith}
 use Rattle.report_script.proofs.Walking.{term_here, terms_end}
 use Rattle.report_script.proofs.evaluation.+value_of.Goals as goal
 

@@ -1,5 +1,4 @@
-use Rattle.std.proofs.Common.{◌≡◌, map, drop}
-use Rattle.report_values.specs.Fractions.{IsSmall}
+use Rattle.report_script.proofs.Common.{◌≡◌, map, drop, IsSmall}
 use Rattle.report_script.specs.Values.{chained, pending}
 use Rattle.report_script.proofs.evaluation.+value_of.Given as goal
 

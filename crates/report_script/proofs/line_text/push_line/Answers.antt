@@ -1,5 +1,5 @@
 use Rattle.report_script.proofs.Walking.{format_fault, format_more, formats_end}
-use Rattle.std.proofs.Common.{arith}
+use Rattle.report_script.proofs.Common.{arith}
 use Rattle.report_script.proofs.line_text.push_line.Goals as goal
 
 pub returns-in-Err-Fault : goal.returns-in-Err-Fault

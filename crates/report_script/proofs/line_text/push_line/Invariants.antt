@@ -1,5 +1,4 @@
-use Rattle.std.proofs.Common.{◌≡◌, drop}
-use Rattle.report_script.specs.Texts.{extended, line_text}
+use Rattle.report_script.proofs.Common.{◌≡◌, drop, extended, line_text}
 use Rattle.report_script.proofs.line_text.push_line.Given as goal
 
 abbrev pub invariant-loop-format : goal.invariant-loop-format

@@ -1,4 +1,4 @@
-use Rattle.std.proofs.Common.{◌≡◌, ℕ, true, List, IfOk, length, subst}
+use Rattle.report_script.proofs.Common.{◌≡◌, ℕ, true, List, IfOk, length, subst}
 use Rattle.report_script.specs.Fits.{report_fits}
 use Rattle.report_script.proofs.Fitting.{reads_fit}
 use Rattle.report_script.proofs.read.read_report.Goals as goal

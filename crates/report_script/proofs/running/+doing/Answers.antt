@@ -1,4 +1,4 @@
-use Rattle.std.proofs.Common.{arith}
+use Rattle.report_script.proofs.Common.{arith}
 use Rattle.report_script.proofs.Walking.{carried, if_other, if_picked, if_stops, print_is, stop_here, turn_end, turn_more, turn_stop}
 use Rattle.report_script.proofs.running.+doing.Goals as goal
 

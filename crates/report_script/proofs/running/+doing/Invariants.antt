@@ -1,5 +1,4 @@
-use Rattle.std.proofs.Common.{◌≡◌, map, drop}
-use Rattle.report_script.specs.Texts.{after, doing, in_turn}
+use Rattle.report_script.proofs.Common.{◌≡◌, map, drop, after, doing, in_turn}
 use Rattle.report_script.proofs.running.+doing.Given as goal
 
 abbrev pub invariant-in_turn-loop-statement : goal.invariant-in_turn-loop-statement

@@ -1,4 +1,4 @@
-use Rattle.std.proofs.Common.{◌∙◌, false, Ok, Err, sym, arith}
+use Rattle.report_script.proofs.Common.{◌∙◌, false, Ok, Err, sym, arith}
 use Rattle.report_script.proofs.Walking.{arm_here, arm_picked, arms_end, picked_if}
 use Rattle.report_script.proofs.running.picked.Goals as goal
 

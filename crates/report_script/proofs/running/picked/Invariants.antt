@@ -1,5 +1,4 @@
-use Rattle.std.proofs.Common.{◌≡◌, map, drop}
-use Rattle.report_script.specs.Texts.{Printing, choice, chosen}
+use Rattle.report_script.proofs.Common.{◌≡◌, map, drop, Printing, choice, chosen}
 use Rattle.report_script.proofs.running.picked.Given as goal
 
 abbrev pub invariant-loop-i : goal.invariant-loop-i

@@ -1,5 +1,4 @@
-use Rattle.std.proofs.Common.{subst, sym, Bool}
-use Rattle.result_book.specs.Rows.{IsRowIn}
+use Rattle.result_book.proofs.Common.{subst, sym, Bool, IsRowIn}
 use Rattle.result_book.proofs.Formats.{second_is_not_first}
 use Rattle.result_book.proofs.Growing.{form_more, next_of}
 use Rattle.result_book.proofs.book_laws.books_grow_by_rows.Goals as goal

@@ -1,4 +1,4 @@
-use Rattle.std.proofs.Common.{[], false}
+use Rattle.result_book.proofs.Common.{[], false}
 use Rattle.result_book.proofs.Growing.{rows_first}
 use Rattle.result_book.proofs.book_laws.first_parts_are_rows.Goals as goal
 

@@ -1,5 +1,4 @@
-use Rattle.std.proofs.Common.{◌≡◌, map, take}
-use Rattle.result_book.specs.Rows.{bound_of}
+use Rattle.result_book.proofs.Common.{◌≡◌, map, take, bound_of}
 use Rattle.result_book.proofs.bounds.bounds_of.Given as goal
 
 -- the bounds so far are those of the first rows

@@ -1,6 +1,4 @@
-use Rattle.std.proofs.Common.{◌≡◌, ◌<◌, false, inl, inr, refl, sym, ◌∙◌, arith}
-use Rattle.std.specs.Prelude.{◌⊎◌}
-use Rattle.result_book.specs.Rounds.{is_round}
+use Rattle.result_book.proofs.Common.{◌≡◌, ◌<◌, false, inl, inr, refl, sym, ◌∙◌, arith, ◌⊎◌, is_round}
 use Rattle.result_book.proofs.FaultLemmas.{new_unless, old_where}
 use Rattle.result_book.proofs.Standing.{first_stands, later_stands}
 use Rattle.result_book.proofs.StateLemmas.{length-results}

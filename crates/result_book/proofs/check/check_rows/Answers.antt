@@ -1,5 +1,4 @@
-use Rattle.std.proofs.Common.{ap}
-use Rattle.result_book.specs.States.{Progress}
+use Rattle.result_book.proofs.Common.{ap, Progress}
 use Rattle.result_book.proofs.Seconds.{checked_more, checked_state, first_fault, next_there, refused_row}
 use Rattle.result_book.proofs.check.check_rows.Goals as goal
 

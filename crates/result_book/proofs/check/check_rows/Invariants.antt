@@ -1,6 +1,4 @@
-use Rattle.std.proofs.Common.{[], take}
-use Rattle.result_book.specs.Rows.{AreRowsIn}
-use Rattle.result_book.specs.States.{IsStateOf}
+use Rattle.result_book.proofs.Common.{[], take, AreRowsIn, IsStateOf}
 use Rattle.result_book.proofs.Formats.{seconds}
 use Rattle.result_book.proofs.check.check_rows.Given as goal
 

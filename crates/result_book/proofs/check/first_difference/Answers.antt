@@ -1,6 +1,4 @@
-use Rattle.std.proofs.Common.{◌≡◌, [], Some, length, slice_get, sym, ◌∙◌, ap, arith, refl}
-use Rattle.std.proofs.lemmas.Bool.{false≢true}
-use Rattle.std.proofs.lemmas.Option.{slice_get_read}
+use Rattle.result_book.proofs.Common.{◌≡◌, [], Some, length, slice_get, sym, ◌∙◌, ap, arith, refl, false≢true, slice_get_read}
 use Rattle.result_book.proofs.Differing.{differ_past, same_all, same_more}
 use Rattle.result_book.proofs.check.first_difference.Goals as goal
 

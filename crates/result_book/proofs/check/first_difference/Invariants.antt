@@ -1,4 +1,4 @@
-use Rattle.std.proofs.Common.{◌≡◌, take}
+use Rattle.result_book.proofs.Common.{◌≡◌, take}
 use Rattle.result_book.proofs.check.first_difference.Given as goal
 
 abbrev pub invariant-loop-place : goal.invariant-loop-place

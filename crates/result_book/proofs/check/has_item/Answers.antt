@@ -1,7 +1,4 @@
-use Rattle.std.proofs.Common.{◌≡◌, List, ℕ, Some, refl, length, slice_get, sym, ◌∙◌, ap, subst, Bool, Decides}
-use Rattle.std.proofs.lemmas.Bool.{ltb-true}
-use Rattle.std.proofs.lemmas.Option.{slice_get_read, slice_get_within}
-use Rattle.std.proofs.lemmas.Slice.Eq.{bytes_eq-Decides}
+use Rattle.result_book.proofs.Common.{◌≡◌, List, ℕ, Some, refl, length, slice_get, sym, ◌∙◌, ap, subst, Bool, Decides, ltb-true, slice_get_read, slice_get_within, bytes_eq-Decides}
 use Rattle.result_book.proofs.check.has_item.Goals as goal
 
 pub returns-in-Some : goal.returns-in-Some

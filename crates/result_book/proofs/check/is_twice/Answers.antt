@@ -1,6 +1,4 @@
-use Rattle.std.proofs.Common.{◌≡◌, Some, inl, sym, ◌∙◌, arith}
-use Rattle.result_book.specs.Rows.{answers_of}
-use Rattle.result_book.specs.Scripts.{word_in}
+use Rattle.result_book.proofs.Common.{◌≡◌, Some, inl, sym, ◌∙◌, arith, answers_of, word_in}
 use Rattle.result_book.proofs.FaultLemmas.{new_by_word, word_known}
 use Rattle.result_book.proofs.Standing.{bound_before, once_told, twice_told, twice_word}
 use Rattle.result_book.proofs.StateLemmas.{length-bounds, length-results}

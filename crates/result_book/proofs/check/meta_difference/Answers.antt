@@ -1,4 +1,4 @@
-use Rattle.std.proofs.Common.{refl}
+use Rattle.result_book.proofs.Common.{refl}
 use Rattle.result_book.proofs.Differing.{meta_differ, meta_same}
 use Rattle.result_book.proofs.check.meta_difference.Goals as goal
 

@@ -1,5 +1,4 @@
-use Rattle.std.proofs.Common.{refl}
-use Rattle.result_book.specs.BookFaults.{IsAnswered}
+use Rattle.result_book.proofs.Common.{refl, IsAnswered}
 use Rattle.result_book.proofs.FaultLemmas.{is_marked, mark_fault, stands_after, tags_fault}
 use Rattle.result_book.proofs.check.word_fault.Goals as goal
 

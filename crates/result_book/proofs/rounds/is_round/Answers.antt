@@ -1,4 +1,4 @@
-use Rattle.std.proofs.Common.{sym, ◌∙◌, arith}
+use Rattle.result_book.proofs.Common.{sym, ◌∙◌, arith}
 use Rattle.result_book.proofs.Rounding.{round_more, round_not, small_round}
 use Rattle.result_book.proofs.rounds.is_round.Goals as goal
 

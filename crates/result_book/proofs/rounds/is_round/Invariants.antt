@@ -1,5 +1,4 @@
-use Rattle.std.proofs.Common.{◌≡◌}
-use Rattle.result_book.specs.Rounds.{is_round}
+use Rattle.result_book.proofs.Common.{◌≡◌, is_round}
 use Rattle.result_book.proofs.rounds.is_round.Given as goal
 
 -- the digits that are left say whether the number is round

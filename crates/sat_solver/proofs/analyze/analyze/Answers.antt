@@ -1,21 +1,13 @@
-use Rattle.std.proofs.Common.{◌≡◌, ◌<◌, ◌≤◌, ◌-◌, ◌+◌, ◌||◌, ◌∷◌, [], ◌≢◌, ℕ, true, false, pos, neg_ℤ, get_or, length, reverse, sym, ap, ◌∙◌, subst, rules, arith}
-use Rattle.std.specs.Prelude.{All, FitsSigned}
-use Rattle.std.specs.Int.{w32}
-use Rattle.std.proofs.lemmas.Int.{to_z-of_z}
-use Rattle.std.proofs.lemmas.List.{get_or_read}
-use Rattle.clause_store.specs.Clauses.{variable}
-use Rattle.clause_store.specs.Propagation.{Known, IsFalsified}
-use Rattle.lrat_checker.specs.LegalLogs.{is_named}
-use Rattle.lrat_checker.proofs.Following.{clause-within}
-use Rattle.sat_solver.specs.Trails.{literal_at}
-use Rattle.sat_solver.specs.Needs.{is_needed, IsWalked, NoneNeeded, last_start}
-use Rattle.sat_solver.proofs.Steps.{walked-init, walked-skip, walked-expand, walked-stop, walked-end, clause-read, clause-there, reason-clause}
+use Rattle.sat_solver.proofs.Common.{◌≡◌, ◌<◌, ◌≤◌, ◌-◌, ◌+◌, ◌||◌, ◌∷◌, [], ◌≢◌, ℕ, true, false, pos, neg_ℤ, get_or, length, reverse, sym, ap, ◌∙◌, subst, rules, arith, All, FitsSigned, w32}
+use Rattle.sat_solver.proofs.Common.{to_z-of_z, get_or_read, variable, Known, IsFalsified, is_named, clause-within, literal_at, is_needed, IsWalked, NoneNeeded, last_start}
+use Rattle.sat_solver.proofs.Steps.{walked-init, walked-skip, walked-expand, walked-stop, walked-end, clause-read, reason-clause}
 use Rattle.smallvec.proofs.SmallVecLemmas.{items-with_items}
 use Rattle.sat_solver.proofs.analyze.analyze.Goals as goal
 use Rattle.sat_solver.proofs.analyze.analyze.Goals.{then-len-eq1, else-len-eq1}
+use Rattle.sat_solver.proofs.Picking.{at-within}
 
 pub clause-requires : goal.clause-requires
-clause-requires c = clause-there c.args.store.now c.args.conflict c.requires.conflict.clause c.requires.conflict.there
+clause-requires c = at-within c.args.store.now c.args.conflict c.requires.conflict.clause c.requires.conflict.there
 
 pub mark-requires : goal.mark-requires
 mark-requires c =
@@ -70,7 +62,7 @@ clause-requires-else-stops c =
     let inside : c.loop-place.place - 1 < length c.args.trail.now.literals.items = omega (arith, c.loop-place-test.true, c.loop-place.invariant.2) in
     let reason : c.index-reason.result.now ≡ get_or c.args.trail.now.reasons.items (c.loop-place.place - 1) 0 = get_or_read c.args.trail.now.reasons.items (c.loop-place.place - 1) c.index-reason.result.now (omega (arith, inside, c.requires.ready.trail.reasoned.paired)) c.index-reason.ensures 0 in
     let found = reason-clause c.args.store.now c.args.free c.args.trail.now.starts.items c.args.trail.now.literals.items (c.loop-place.place - 1) (get_or c.args.trail.now.reasons.items (c.loop-place.place - 1) 0) c.if-stops.ensures.no (c.requires.ready.trail.reasoned.each (c.loop-place.place - 1) inside) in
-    rw reason (clause-there c.args.store.now (get_or c.args.trail.now.reasons.items (c.loop-place.place - 1) 0) found.0 found.1)
+    rw reason (at-within c.args.store.now (get_or c.args.trail.now.reasons.items (c.loop-place.place - 1) 0) found.0 found.1)
 
 pub mark-requires-else-stops : goal.mark-requires-else-stops
 mark-requires-else-stops c =

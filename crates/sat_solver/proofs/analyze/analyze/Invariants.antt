@@ -1,5 +1,4 @@
-use Rattle.std.proofs.Common.{◌≡◌, ◌≤◌, length}
-use Rattle.sat_solver.specs.Needs.{IsWalked}
+use Rattle.sat_solver.proofs.Common.{◌≡◌, ◌≤◌, length, IsWalked}
 use Rattle.sat_solver.proofs.analyze.analyze.Given as goal
 
 abbrev pub invariant-loop-place : goal.invariant-loop-place

@@ -1,4 +1,4 @@
-use Rattle.std.proofs.Common.{ℕ, ◌<◌, ◌≤◌, get_or}
+use Rattle.sat_solver.proofs.Common.{ℕ, ◌<◌, ◌≤◌, get_or}
 use Rattle.sat_solver.proofs.analyze.level_of.Given as goal
 
 abbrev pub invariant-loop-level : goal.invariant-loop-level

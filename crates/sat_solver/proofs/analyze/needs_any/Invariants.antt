@@ -1,4 +1,4 @@
-use Rattle.sat_solver.specs.Needs.{NoneNeeded}
+use Rattle.sat_solver.proofs.Common.{NoneNeeded}
 use Rattle.sat_solver.proofs.analyze.needs_any.Given as goal
 
 abbrev pub invariant-loop-place : goal.invariant-loop-place

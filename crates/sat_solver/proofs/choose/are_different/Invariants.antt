@@ -1,4 +1,4 @@
-use Rattle.std.proofs.Common.{◌≢◌, ℕ, ◌<◌, pos, length, get_or}
+use Rattle.sat_solver.proofs.Common.{◌≢◌, ℕ, ◌<◌, pos, length, get_or}
 use Rattle.sat_solver.proofs.choose.are_different.Given as goal
 
 abbrev pub invariant-loop-place : goal.invariant-loop-place

@@ -1,10 +1,4 @@
-use Rattle.std.proofs.Common.{◌≡◌, ◌-◌, ◌<◌, ◌≤◌, ℕ, length, get_or, ap, ◌∙◌, rules, arith}
-use Rattle.std.specs.Bool.{OnTrue}
-use Rattle.std.specs.Prelude.{FitsSigned}
-use Rattle.std.specs.Int.{w32}
-use Rattle.std.proofs.lemmas.Int.{to_z-of_z}
-use Rattle.clause_store.specs.Clauses.{variable}
-use Rattle.sat_solver.specs.Trails.{literal_at}
+use Rattle.sat_solver.proofs.Common.{◌≡◌, ◌-◌, ◌<◌, ◌≤◌, ℕ, length, get_or, ap, ◌∙◌, rules, arith, OnTrue, FitsSigned, w32, to_z-of_z, variable, literal_at}
 use Rattle.sat_solver.proofs.Choosing.{recent-from}
 use Rattle.sat_solver.proofs.choose.is_recent.Goals as goal
 

@@ -1,10 +1,4 @@
-use Rattle.std.proofs.Common.{◌≡◌, Bool, Some, ap, sym, ◌∙◌, rules}
-use Rattle.std.specs.Prelude.{FitsSigned}
-use Rattle.std.specs.Int.{w32}
-use Rattle.std.proofs.lemmas.Int.{to_z-of_z}
-use Rattle.clause_store.specs.Propagation.{literal, is_some_false}
-use Rattle.lrat_checker.specs.Tables.{known_of}
-use Rattle.std.specs.Bool.{OnTrue}
+use Rattle.sat_solver.proofs.Common.{◌≡◌, Bool, Some, ap, sym, ◌∙◌, rules, FitsSigned, w32, to_z-of_z, literal, is_some_false, known_of, OnTrue}
 use Rattle.sat_solver.proofs.Choosing.{IsRecent, safe-unless, safe-recent, not-false-true, not-false-none}
 use Rattle.sat_solver.proofs.choose.is_safe.Goals as goal
 

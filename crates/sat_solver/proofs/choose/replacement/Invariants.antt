@@ -1,6 +1,4 @@
-use Rattle.std.proofs.Common.{◌≡◌, ◌≢◌, ◌≤◌, ℕ, ℤ, ◌<◌, false, Some, length, get_or}
-use Rattle.clause_store.specs.Propagation.{literal}
-use Rattle.lrat_checker.specs.Tables.{known_of}
+use Rattle.sat_solver.proofs.Common.{◌≡◌, ◌≢◌, ◌≤◌, ℕ, ℤ, ◌<◌, false, Some, length, get_or, literal, known_of}
 use Rattle.sat_solver.proofs.choose.replacement.Given as goal
 
 abbrev pub invariant-loop-place : goal.invariant-loop-place

@@ -1,4 +1,4 @@
-use Rattle.std.proofs.Common.{◌≢◌, ℕ, ◌<◌, pos, get_or}
+use Rattle.sat_solver.proofs.Common.{◌≢◌, ℕ, ◌<◌, pos, get_or}
 use Rattle.sat_solver.proofs.choose.stands_behind.Given as goal
 
 abbrev pub invariant-loop-later : goal.invariant-loop-later

@@ -1,6 +1,4 @@
-use Rattle.std.proofs.Common.{◌≡◌, take}
-use Rattle.lrat_checker.specs.Tables.{known_of}
-use Rattle.sat_solver.specs.Occurrences.{valued}
+use Rattle.sat_solver.proofs.Common.{◌≡◌, take, known_of, valued}
 use Rattle.sat_solver.proofs.counts.count.Given as goal
 
 abbrev pub invariant-loop-l : goal.invariant-loop-l

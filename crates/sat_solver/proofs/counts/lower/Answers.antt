@@ -1,5 +1,4 @@
-use Rattle.std.proofs.Common.{◌≡◌, ◌<◌, ◌≤◌, ◌∙◌, length, get_or, sym, arith}
-use Rattle.std.proofs.lemmas.List.{get_or_default}
+use Rattle.sat_solver.proofs.Common.{◌≡◌, ◌<◌, ◌≤◌, ◌∙◌, length, get_or, sym, arith, get_or_default}
 use Rattle.sat_solver.proofs.Listed.{lowered-fits, stands-within}
 use Rattle.sat_solver.proofs.counts.lower.Goals as goal
 

@@ -1,5 +1,4 @@
-use Rattle.std.proofs.Common.{◌≡◌, ℕ, ◌+◌, length, take, get_or, nat_eq}
-use Rattle.std.specs.Prelude.{count_by}
+use Rattle.sat_solver.proofs.Common.{◌≡◌, ℕ, ◌+◌, length, take, get_or, nat_eq, count_by}
 use Rattle.sat_solver.proofs.counts.lower.Given as goal
 
 abbrev pub invariant-loop-number : goal.invariant-loop-number

@@ -1,13 +1,5 @@
-use Rattle.std.proofs.Common.{◌≡◌, ◌<◌, ◌≤◌, ◌++◌, ◌∷◌, [], ℕ, Bool, Option, None, Some, length, set, ap, ◌∙◌, rules, arith}
-use Rattle.std.specs.Prelude.{All, FitsSigned}
-use Rattle.std.specs.Int.{w32}
-use Rattle.std.proofs.lemmas.Int.{to_z-of_z}
-use Rattle.std.proofs.lemmas.List.Elements.{All-contains}
-use Rattle.clause_store.specs.Clauses.{variable}
-use Rattle.clause_store.specs.Propagation.{is_positive, IsQuiet}
-use Rattle.lrat_checker.specs.Tables.{known_of}
-use Rattle.sat_solver.specs.Trails.{IsReady}
-use Rattle.sat_solver.specs.Propagators.{IsAssigned}
+use Rattle.sat_solver.proofs.Common.{◌≡◌, ◌<◌, ◌≤◌, ◌++◌, ◌∷◌, [], ℕ, Bool, Option, None, Some, length, set, ap, ◌∙◌, rules, arith, All, FitsSigned, w32, to_z-of_z, All-contains, variable}
+use Rattle.sat_solver.proofs.Common.{is_positive, IsQuiet, known_of, IsReady, IsAssigned}
 use Rattle.sat_solver.proofs.Grown.{count-le}
 use Rattle.sat_solver.proofs.Ready.{ready-grown, ready-decide, ready-same}
 use Rattle.sat_solver.proofs.decide.next_conflict.Goals as goal

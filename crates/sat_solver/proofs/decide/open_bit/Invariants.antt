@@ -1,6 +1,4 @@
-use Rattle.std.proofs.Common.{◌≢◌, take, None}
-use Rattle.std.specs.Prelude.{All}
-use Rattle.lrat_checker.specs.Tables.{known_of}
+use Rattle.sat_solver.proofs.Common.{◌≢◌, take, None, All, known_of}
 use Rattle.sat_solver.proofs.decide.open_bit.Given as goal
 
 abbrev pub invariant-loop-v : goal.invariant-loop-v

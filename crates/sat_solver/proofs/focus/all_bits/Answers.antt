@@ -1,6 +1,4 @@
-use Rattle.std.proofs.Common.{ℕ, ◌+◌, ◌<◌, ◌≤◌, ◌++◌, ◌∷◌, [], inl, inr, sym, subst, arith}
-use Rattle.std.specs.Prelude.{Contains}
-use Rattle.std.proofs.lemmas.List.Elements.{All-push, Contains-append_left, Contains-push}
+use Rattle.sat_solver.proofs.Common.{ℕ, ◌+◌, ◌<◌, ◌≤◌, ◌++◌, ◌∷◌, [], inl, inr, sym, subst, arith, Contains, All-push, Contains-append_left, Contains-push}
 use Rattle.sat_solver.proofs.Pushes.{last_or}
 use Rattle.sat_solver.proofs.focus.all_bits.Goals as goal
 

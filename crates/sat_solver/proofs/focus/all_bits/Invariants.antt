@@ -1,5 +1,4 @@
-use Rattle.std.proofs.Common.{ℕ, ◌<◌, ◌≤◌}
-use Rattle.std.specs.Prelude.{All, Contains}
+use Rattle.sat_solver.proofs.Common.{ℕ, ◌<◌, ◌≤◌, All, Contains}
 use Rattle.sat_solver.proofs.focus.all_bits.Given as goal
 
 abbrev pub invariant-loop-v : goal.invariant-loop-v

@@ -1,11 +1,5 @@
-use Rattle.std.proofs.Common.{◌≡◌, ◌<◌, ◌≤◌, ◌++◌, ◌∷◌, [], ℕ, true, false, length, map, sym, ap, ◌∙◌, subst, arith}
-use Rattle.std.specs.Prelude.{All}
-use Rattle.std.proofs.lemmas.List.{length-map}
-use Rattle.clause_store.specs.Propagation.{none, with_false, EndsInConflict}
-use Rattle.lrat_checker.specs.LegalLogs.{Log, GoesOnBy}
-use Rattle.sat_solver.specs.declared.probe.Probe.{Probe}
-use Rattle.sat_solver.specs.Needs.{IsLearned}
-use Rattle.sat_solver.specs.Parts.{number_of, in_use, IsProbing}
+use Rattle.sat_solver.proofs.Common.{◌≡◌, ◌<◌, ◌≤◌, ◌++◌, ◌∷◌, [], ℕ, true, false, length, map, sym, ap, ◌∙◌, subst, arith, All, length-map, none, with_false, EndsInConflict, Log, GoesOnBy, Probe}
+use Rattle.sat_solver.proofs.Common.{IsLearned, number_of, in_use, IsProbing}
 use Rattle.sat_solver.proofs.Counting.{length-free}
 use Rattle.sat_solver.proofs.Grown.{count-le}
 use Rattle.sat_solver.proofs.Ready.{learned-new, legal-free, ready-undone, ready-kept}

@@ -1,10 +1,6 @@
-use Rattle.std.proofs.Common.{◌≡◌, ◌<◌, ◌-◌, ◌+◌, ◌∙◌, ℕ, List, pos, length, take, map, get_or, sym, ap, subst, rules, arith}
-use Rattle.std.specs.Prelude.{FitsSigned}
-use Rattle.std.specs.Int.{w32}
-use Rattle.std.proofs.lemmas.Int.{to_z-of_z}
-use Rattle.std.proofs.lemmas.List.{length-map, length-set}
-use Rattle.sat_solver.specs.Occurrences.{place_of}
-use Rattle.sat_solver.proofs.Listed.{list-changed, IsDropped, dropped-more}
+use Rattle.sat_solver.proofs.Common.{◌≡◌, ◌<◌, ◌-◌, ◌+◌, ◌∙◌, ℕ, List, pos, length, take, map, get_or, sym, ap, subst, rules, arith, FitsSigned, w32, to_z-of_z, length-map, length-set, place_of}
+use Rattle.sat_solver.proofs.Common.{list-changed}
+use Rattle.sat_solver.proofs.Listed.{IsDropped, dropped-more}
 use Rattle.sat_solver.proofs.occurrences.drop_last.Goals as goal
 
 pub loop-l-preserved : goal.loop-l-preserved

@@ -1,5 +1,4 @@
-use Rattle.std.proofs.Common.{◌≡◌, ℤ, ◌-◌, length, take, map}
-use Rattle.sat_solver.specs.Occurrences.{list_of, times}
+use Rattle.sat_solver.proofs.Common.{◌≡◌, ℤ, ◌-◌, length, take, map, list_of, times}
 use Rattle.sat_solver.proofs.occurrences.drop_last.Given as goal
 
 abbrev pub invariant-loop-l : goal.invariant-loop-l

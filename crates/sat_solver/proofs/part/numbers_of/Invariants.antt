@@ -1,5 +1,4 @@
-use Rattle.std.proofs.Common.{◌≡◌, take, map}
-use Rattle.sat_solver.specs.Parts.{number_of}
+use Rattle.sat_solver.proofs.Common.{◌≡◌, take, map, number_of}
 use Rattle.sat_solver.proofs.part.numbers_of.Given as goal
 
 abbrev pub invariant-loop-hint : goal.invariant-loop-hint

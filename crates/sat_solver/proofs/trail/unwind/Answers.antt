@@ -1,10 +1,4 @@
-use Rattle.std.proofs.Common.{◌≡◌, ◌+◌, ◌++◌, ◌∷◌, [], ℤ, Bool, Option, None, length, nat_abs, ap, ◌∙◌, rules, arith}
-use Rattle.std.proofs.lemmas.Int.{to_z-of_z}
-use Rattle.std.proofs.lemmas.List.{length-set, length_push}
-use Rattle.std.specs.Prelude.{FitsSigned}
-use Rattle.std.specs.Int.{w32}
-use Rattle.clause_store.specs.Clauses.{variable}
-use Rattle.sat_solver.specs.Trails.{IsUnwound}
+use Rattle.sat_solver.proofs.Common.{◌≡◌, ◌+◌, ◌++◌, ◌∷◌, [], ℤ, Bool, Option, None, length, nat_abs, ap, ◌∙◌, rules, arith, to_z-of_z, length-set, length_push, FitsSigned, w32, variable, IsUnwound}
 use Rattle.sat_solver.proofs.Pushes.{unwind, variable-abs}
 use Rattle.sat_solver.proofs.trail.unwind.Goals as goal
 

@@ -1,8 +1,5 @@
-use Rattle.std.proofs.Common.{rules, sym, refl, add-one, arith}
-use Rattle.vlog_syntax.specs.declared.left_side.LeftSide.TheViews.{the_lemmas}
-use Rattle.vlog_meaning.specs.Scopes.{names_of}
-use Rattle.signal_masks.proofs.Sets.{or_end}
-use Rattle.signal_masks.proofs.Placing.{fit_bit, fit_indexed, fit_joined, fit_element}
+use Rattle.signal_masks.proofs.Common.{rules, sym, refl, add-one, arith, the_lemmas, names_of}
+use Rattle.signal_masks.proofs.Placing.{fit_bit, fit_indexed, fit_joined, fit_element, or_end}
 use Rattle.signal_masks.proofs.Indexing.{index_name, index_range, index_bit, index_indexed, index_joined, more_indices}
 use Rattle.signal_masks.proofs.indices.+reading.Goals as goal
 

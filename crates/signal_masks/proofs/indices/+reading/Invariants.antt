@@ -1,8 +1,4 @@
-use Rattle.std.proofs.Common.{◌≡◌, ℕ, ◌||◌, map, take}
-use Rattle.vlog_meaning.specs.Scopes.{names_of}
-use Rattle.vlog_effects.specs.LeftSides.{parts_of, concatenated}
-use Rattle.signal_masks.specs.Masks.{bits_in}
-use Rattle.signal_masks.specs.Parts.{indices_read}
+use Rattle.signal_masks.proofs.Common.{◌≡◌, ℕ, ◌||◌, map, take, names_of, parts_of, concatenated, bits_in, indices_read}
 use Rattle.signal_masks.proofs.indices.+reading.Given as goal
 
 abbrev pub invariant-indices_of_all-loop-part : goal.invariant-indices_of_all-loop-part

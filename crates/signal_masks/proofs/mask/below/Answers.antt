@@ -1,4 +1,4 @@
-use Rattle.std.proofs.Common.{arith}
+use Rattle.signal_masks.proofs.Common.{arith}
 use Rattle.vlog_meaning.proofs.Powers.{power_fits}
 use Rattle.signal_masks.proofs.mask.below.Goals as goal
 

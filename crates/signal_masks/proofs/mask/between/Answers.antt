@@ -1,4 +1,4 @@
-use Rattle.std.proofs.Common.{arith}
+use Rattle.signal_masks.proofs.Common.{arith}
 use Rattle.std.proofs.Math.Pow.{pow_mono}
 use Rattle.signal_masks.proofs.Bits.{has_between}
 use Rattle.signal_masks.proofs.mask.between.Goals as goal

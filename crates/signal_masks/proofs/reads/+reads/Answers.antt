@@ -1,13 +1,12 @@
-use Rattle.std.proofs.Common.{rules, sym, ap, add-one, arith, ◌∙◌}
+use Rattle.signal_masks.proofs.Common.{rules, sym, ap, add-one, arith, ◌∙◌, names_of, sense}
 use Rattle.vlog_syntax.specs.declared.expr.Expr.TheViews.{the_lemmas}
 use Rattle.vlog_meaning.specs.declared.shapes.Shape.{Shape}
-use Rattle.vlog_meaning.specs.Scopes.{names_of}
-use Rattle.vlog_meaning.specs.Senses.{sense}
 use Rattle.vlog_meaning.proofs.Whole.{whole_name, whole_index, whole_part, whole_indexed, whole_inner, whole_operand, whole_pair, whole_choice, whole_join, whole_times, whole_arguments, element_whole}
 use Rattle.signal_masks.proofs.Selects.{bit_sized, part_sized, indexed_sized}
-use Rattle.signal_masks.proofs.Sets.{or_end}
-use Rattle.signal_masks.proofs.Reading.{reads_number, reads_name, reads_bit, reads_part, reads_indexed, reads_inner, reads_operand, reads_pair, reads_choice, reads_joined, reads_repeated, reads_call, more_reads, select_constant, select_other}
+use Rattle.signal_masks.proofs.Reading.{reads_number, reads_name, reads_bit, reads_part, reads_indexed, reads_inner, reads_operand, reads_pair, reads_choice, reads_joined, reads_repeated, reads_call}
+use Rattle.signal_masks.proofs.Reading.{more_reads, select_constant, select_other}
 use Rattle.signal_masks.proofs.reads.+reads.Goals as goal
+use Rattle.signal_masks.proofs.Placing.{or_end}
 
 pub reads_of-name_bits-requires : goal.reads_of-name_bits-requires
 reads_of-name_bits-requires t c = whole_name (names_of c.args.scope.now) c.args.expr.now c.in-Name.name c.in-Name.is c.requires

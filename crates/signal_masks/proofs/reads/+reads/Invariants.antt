@@ -1,7 +1,4 @@
-use Rattle.std.proofs.Common.{◌≡◌, ℕ, ◌||◌, take}
-use Rattle.vlog_meaning.specs.Scopes.{names_of}
-use Rattle.vlog_meaning.specs.Senses.{senses, all_reads}
-use Rattle.signal_masks.specs.Masks.{bits_in}
+use Rattle.signal_masks.proofs.Common.{◌≡◌, ℕ, ◌||◌, take, names_of, senses, all_reads, bits_in}
 use Rattle.signal_masks.proofs.reads.+reads.Given as goal
 
 abbrev pub invariant-reads_of_all-loop-expr : goal.invariant-reads_of_all-loop-expr

@@ -1,8 +1,6 @@
-use Rattle.std.proofs.Common.{rules, sym, refl, add-one, arith, ◌∙◌}
-use Rattle.vlog_syntax.specs.declared.left_side.LeftSide.TheViews.{the_lemmas}
-use Rattle.vlog_meaning.specs.Scopes.{names_of}
-use Rattle.signal_masks.proofs.Sets.{or_end}
-use Rattle.signal_masks.proofs.Placing.{fit_name, bit_sized, fit_bit, range_sized, fit_range, indexed_sized, fit_indexed, fit_joined, fit_element, cover_name, cover_bit, cover_bit_none, cover_part, cover_indexed, cover_indexed_none, cover_joined, more_covers}
+use Rattle.signal_masks.proofs.Common.{rules, sym, refl, add-one, arith, ◌∙◌, the_lemmas, names_of}
+use Rattle.signal_masks.proofs.Placing.{fit_name, bit_sized, fit_bit, range_sized, fit_range, indexed_sized, fit_indexed, fit_joined, fit_element, cover_name, cover_bit, cover_bit_none, cover_part}
+use Rattle.signal_masks.proofs.Placing.{cover_indexed, cover_indexed_none, cover_joined, more_covers, or_end}
 use Rattle.signal_masks.proofs.writes.+covers.Goals as goal
 
 pub covered_by-name_bits-requires : goal.covered_by-name_bits-requires

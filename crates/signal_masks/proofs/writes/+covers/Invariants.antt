@@ -1,8 +1,4 @@
-use Rattle.std.proofs.Common.{◌≡◌, ℕ, ◌||◌, map, take}
-use Rattle.vlog_meaning.specs.Scopes.{names_of}
-use Rattle.vlog_effects.specs.LeftSides.{parts_of, concatenated}
-use Rattle.vlog_effects.specs.Latches.{parts_cover}
-use Rattle.signal_masks.specs.Masks.{bits_in}
+use Rattle.signal_masks.proofs.Common.{◌≡◌, ℕ, ◌||◌, map, take, names_of, parts_of, concatenated, parts_cover, bits_in}
 use Rattle.signal_masks.proofs.writes.+covers.Given as goal
 
 abbrev pub invariant-covered_by_all-loop-part : goal.invariant-covered_by_all-loop-part

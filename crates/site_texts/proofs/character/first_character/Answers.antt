@@ -1,4 +1,4 @@
-use Rattle.std.proofs.Common.{inl, inr, arith}
+use Rattle.site_texts.proofs.Common.{inl, inr, arith}
 use Rattle.site_texts.proofs.Characters.{ascii_whole, blank_cut, no_lead_cut}
 use Rattle.site_texts.proofs.character.first_character.Goals as goal
 

@@ -1,4 +1,4 @@
-use Rattle.std.proofs.Common.{arith}
+use Rattle.site_texts.proofs.Common.{arith}
 use Rattle.site_texts.proofs.Characters.{four_cut_1, four_cut_2, four_cut_3, four_whole}
 use Rattle.site_texts.proofs.character.four_bytes.Goals as goal
 

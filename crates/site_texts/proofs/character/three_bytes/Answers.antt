@@ -1,4 +1,4 @@
-use Rattle.std.proofs.Common.{arith}
+use Rattle.site_texts.proofs.Common.{arith}
 use Rattle.site_texts.proofs.Characters.{three_cut_1, three_cut_2, three_whole}
 use Rattle.site_texts.proofs.character.three_bytes.Goals as goal
 

@@ -1,4 +1,4 @@
-use Rattle.std.proofs.Common.{arith}
+use Rattle.site_texts.proofs.Common.{arith}
 use Rattle.site_texts.proofs.Characters.{two_cut, two_whole}
 use Rattle.site_texts.proofs.character.two_bytes.Goals as goal
 

@@ -1,4 +1,4 @@
-use Rattle.std.proofs.Common.{arith}
+use Rattle.site_texts.proofs.Common.{arith}
 use Rattle.site_texts.proofs.Choosing.{along_fails, along_is, end_is_no_blank}
 use Rattle.site_texts.proofs.choice.along_word.Goals as goal
 

@@ -1,5 +1,4 @@
-use Rattle.std.proofs.Common.{arith}
-use Rattle.std.proofs.lemmas.List.{take_more_same}
+use Rattle.site_texts.proofs.Common.{arith, take_more_same}
 use Rattle.site_texts.proofs.choice.same_front.Goals as goal
 
 pub loop-same-preserved : goal.loop-same-preserved

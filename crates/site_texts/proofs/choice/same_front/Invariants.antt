@@ -1,4 +1,4 @@
-use Rattle.std.proofs.Common.{◌≡◌, ◌-◌, ◌≤◌, length, take}
+use Rattle.site_texts.proofs.Common.{◌≡◌, ◌-◌, ◌≤◌, length, take}
 use Rattle.site_texts.proofs.choice.same_front.Given as goal
 
 abbrev pub invariant-loop-same : goal.invariant-loop-same

@@ -1,7 +1,4 @@
-use Rattle.std.proofs.Common.{ℕ, List, arith, length-drop, subst}
-use Rattle.std.proofs.lemmas.List.{take_rest}
-use Rattle.site_texts.specs.Names.{IsCharacter}
-use Rattle.site_texts.specs.declared.character.Character.TheVariants.{Whole, Cut}
+use Rattle.site_texts.proofs.Common.{ℕ, List, arith, length-drop, subst, take_rest, IsCharacter, Whole, Cut}
 use Rattle.site_texts.proofs.Characters.{no_solid}
 use Rattle.site_texts.proofs.Fronts.{front_all, front_cut, front_more}
 use Rattle.site_texts.proofs.name.front_of.Goals as goal

@@ -1,5 +1,4 @@
-use Rattle.std.proofs.Common.{◌-◌, ◌≤◌, length, take}
-use Rattle.site_texts.specs.Names.{IsSolid}
+use Rattle.site_texts.proofs.Common.{◌-◌, ◌≤◌, length, take, IsSolid}
 use Rattle.site_texts.proofs.name.front_of.Given as goal
 
 abbrev pub invariant-loop-whole : goal.invariant-loop-whole

@@ -1,7 +1,4 @@
-use Rattle.std.proofs.Common.{◌≡◌, ◌∙◌, ◌+◌, ◌∷◌, ◌++◌, ℕ, List, ap, ap₂, arith, get_or, rules, subst, sym, take}
-use Rattle.std.proofs.lemmas.List.{take_rest}
-use Rattle.std.specs.Str.{IsUtf8}
-use Rattle.site_texts.specs.Names.{IsName}
+use Rattle.site_texts.proofs.Common.{◌≡◌, ◌∙◌, ◌+◌, ◌∷◌, ◌++◌, ℕ, List, ap, ap₂, arith, get_or, rules, subst, sym, take, take_rest, IsUtf8, IsName}
 use Rattle.site_texts.proofs.Fronts.{a_name, no_name}
 use Rattle.site_texts.proofs.name.read_name.Goals as goal
 

@@ -1,6 +1,5 @@
-use Rattle.std.proofs.Common.{arith, refl}
+use Rattle.site_texts.proofs.Common.{arith, refl, Bits}
 use Rattle.site_texts.specs.declared.choice.Choice.TheVariants as field
-use Rattle.site_texts.specs.declared.parts.Bits.{Bits}
 use Rattle.site_texts.proofs.Choosing.{word_below}
 use Rattle.site_texts.proofs.Stuck.{handed_on, shorter}
 use Rattle.site_texts.proofs.Fields.{bit_behind, bit_stuck}

@@ -1,5 +1,4 @@
-use Rattle.std.proofs.Common.{◌≡◌, arith, false, true}
-use Rattle.site_texts.specs.SiteTexts.{reads_control}
+use Rattle.site_texts.proofs.Common.{◌≡◌, arith, false, true, reads_control}
 use Rattle.site_texts.proofs.Stuck.{handed_on, shorter}
 use Rattle.site_texts.proofs.Fields.{control_behind, control_stuck, none_stuck}
 use Rattle.site_texts.proofs.Joining.{control_part, none_part}

@@ -1,5 +1,4 @@
-use Rattle.std.proofs.Common.{arith, refl}
-use Rattle.site_texts.specs.declared.parts.PlaceText.{PlaceText}
+use Rattle.site_texts.proofs.Common.{arith, refl, PlaceText}
 use Rattle.site_texts.proofs.Stuck.{handed_on, shorter}
 use Rattle.site_texts.proofs.Fields.{name_behind, name_stuck}
 use Rattle.site_texts.proofs.Joining.{name_part}

@@ -1,6 +1,5 @@
-use Rattle.std.proofs.Common.{arith}
+use Rattle.site_texts.proofs.Common.{arith, AreOf}
 use Rattle.site_texts.specs.declared.choice.Choice.TheVariants as field
-use Rattle.site_texts.specs.Rests.{AreOf}
 use Rattle.site_texts.proofs.Stuck.{handed_on, shorter}
 use Rattle.site_texts.proofs.Words.{word_no_space}
 use Rattle.site_texts.proofs.Fields.{mode_behind, mode_stuck}

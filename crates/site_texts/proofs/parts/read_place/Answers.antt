@@ -1,6 +1,5 @@
-use Rattle.std.proofs.Common.{arith, eqb, sym}
+use Rattle.site_texts.proofs.Common.{arith, eqb, sym, AreOfPlace}
 use Rattle.site_texts.specs.declared.choice.Choice.TheVariants as field
-use Rattle.site_texts.specs.Rests.{AreOfPlace}
 use Rattle.site_texts.proofs.Stuck.{handed_on, shorter}
 use Rattle.site_texts.proofs.Words.{place_at, word_no_space}
 use Rattle.site_texts.proofs.Fields.{place_behind, place_stuck}

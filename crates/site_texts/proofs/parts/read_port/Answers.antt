@@ -1,6 +1,4 @@
-use Rattle.std.proofs.Common.{ℕ, List, arith, subst, sym}
-use Rattle.site_texts.specs.Rests.{AreOfPort, HasPlace, IsPart}
-use Rattle.site_texts.specs.SiteTexts.{port_text}
+use Rattle.site_texts.proofs.Common.{ℕ, List, arith, subst, sym, AreOfPort, HasPlace, IsPart, port_text}
 use Rattle.site_texts.proofs.Stuck.{handed_on, shorter}
 use Rattle.site_texts.proofs.Fields.{port_behind, port_stuck}
 use Rattle.site_texts.proofs.Joining.{port_part}

@@ -1,5 +1,4 @@
-use Rattle.std.proofs.Common.{arith, refl}
-use Rattle.site_texts.specs.declared.parts.Parts.{Parts}
+use Rattle.site_texts.proofs.Common.{arith, refl, Parts}
 use Rattle.site_texts.proofs.Stuck.{handed_on, shorter}
 use Rattle.site_texts.proofs.Fields.{top_behind, top_stuck}
 use Rattle.site_texts.proofs.Joining.{top_part}

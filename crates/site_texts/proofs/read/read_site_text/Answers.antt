@@ -1,4 +1,4 @@
-use Rattle.std.proofs.Common.{arith}
+use Rattle.site_texts.proofs.Common.{arith}
 use Rattle.site_texts.proofs.Reading.{bad_at, is_site_text}
 use Rattle.site_texts.proofs.read.read_site_text.Goals as goal
 

@@ -1,4 +1,4 @@
-use Rattle.std.proofs.Common.{◌≡◌, ℕ, ◌<◌, ◌≤◌, get_or, length}
+use Rattle.site_texts.proofs.Common.{◌≡◌, ℕ, ◌<◌, ◌≤◌, get_or, length}
 use Rattle.site_texts.proofs.source.last_colon.Given as goal
 
 abbrev pub invariant-loop-at : goal.invariant-loop-at

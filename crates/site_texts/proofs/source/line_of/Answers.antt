@@ -1,6 +1,4 @@
-use Rattle.std.proofs.Common.{arith, subst}
-use Rattle.std.proofs.lemmas.List.{get_or_past}
-use Rattle.site_texts.specs.Rests.{IsNoLine}
+use Rattle.site_texts.proofs.Common.{arith, subst, get_or_past, IsNoLine}
 use Rattle.site_texts.proofs.Sources.{no_line}
 use Rattle.site_texts.proofs.source.line_of.Goals as goal
 

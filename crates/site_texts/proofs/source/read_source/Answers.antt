@@ -1,7 +1,4 @@
-use Rattle.std.proofs.Common.{ℕ, List, arith, length, rules, subst, sym}
-use Rattle.std.specs.Str.{IsUtf8}
-use Rattle.site_texts.specs.Rests.{IsAny, IsNoSource, IsSource, IsStuck}
-use Rattle.site_texts.specs.SiteTexts.{source_text}
+use Rattle.site_texts.proofs.Common.{ℕ, List, arith, length, rules, subst, sym, IsUtf8, IsAny, IsNoSource, IsSource, IsStuck, source_text}
 use Rattle.site_texts.proofs.Sources.{all_solid, front_stuck, no_source_stuck, source_part}
 use Rattle.site_texts.proofs.source.read_source.Goals as goal
 

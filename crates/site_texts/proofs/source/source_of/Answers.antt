@@ -1,8 +1,5 @@
-use Rattle.std.proofs.Common.{◌≡◌, ◌∙◌, ◌-◌, ℕ, List, Option, Some, None, ap, arith, subst, sym, take}
-use Rattle.std.proofs.lemmas.Str.{IsCharBoundary-after_ascii, IsCharBoundary-before_ascii}
-use Rattle.std.specs.Prelude.{MatchOption}
-use Rattle.site_texts.specs.declared.source.Source.{Source}
-use Rattle.site_texts.specs.Rests.{IsLastColon, IsNoLine, IsNoSource, IsSource}
+use Rattle.site_texts.proofs.Common.{◌≡◌, ◌∙◌, ◌-◌, ℕ, List, Option, Some, None, ap, arith, subst, sym, take, IsCharBoundary-after_ascii, IsCharBoundary-before_ascii, MatchOption, Source, IsLastColon}
+use Rattle.site_texts.proofs.Common.{IsNoLine, IsNoSource, IsSource}
 use Rattle.site_texts.proofs.Sources.{a_source, no_colon, no_file, no_number}
 use Rattle.site_texts.proofs.source.source_of.Goals as goal
 

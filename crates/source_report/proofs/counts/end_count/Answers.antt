@@ -1,8 +1,4 @@
-use Rattle.std.proofs.Common.{count_by, ap, refl, sym, ◌∙◌, arith}
-use Rattle.std.proofs.lemmas.List.{take_all}
-use Rattle.result_book.specs.Scripts.{ask}
-use Rattle.result_book.specs.Rows.{groups}
-use Rattle.source_report.specs.Texts.{is_end}
+use Rattle.source_report.proofs.Common.{count_by, ap, refl, sym, ◌∙◌, arith, take_all, ask, groups, is_end}
 use Rattle.source_report.proofs.Counted.{asks_told, count-map, count_no, count_yes}
 use Rattle.source_report.proofs.counts.end_count.Goals as goal
 use Rattle.source_report.proofs.counts.end_count.Goals.{then-is_of, else-is_of}

@@ -1,5 +1,4 @@
-use Rattle.std.proofs.Common.{◌≡◌, ◌≤◌, take, count_by}
-use Rattle.source_report.specs.Texts.{is_end}
+use Rattle.source_report.proofs.Common.{◌≡◌, ◌≤◌, take, count_by, is_end}
 use Rattle.source_report.proofs.counts.end_count.Given as goal
 
 abbrev pub invariant-loop-mutation : goal.invariant-loop-mutation

@@ -1,6 +1,4 @@
-use Rattle.std.proofs.Common.{count_by, ap, refl, ◌∙◌}
-use Rattle.result_book.specs.Scripts.{ask, is_ended}
-use Rattle.result_book.specs.Rows.{groups}
+use Rattle.source_report.proofs.Common.{count_by, ap, refl, ◌∙◌, ask, is_ended, groups}
 use Rattle.source_report.proofs.Counted.{asks_told, count-map}
 use Rattle.source_report.proofs.counts.finished_count.Goals as goal
 

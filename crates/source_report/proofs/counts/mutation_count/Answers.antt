@@ -1,6 +1,4 @@
-use Rattle.std.proofs.Common.{◌≡◌, length, ap, sym, ◌∙◌}
-use Rattle.result_book.specs.Rows.{groups}
-use Rattle.result_book.proofs.StateLemmas.{length-asks, length-results}
+use Rattle.source_report.proofs.Common.{◌≡◌, length, ap, sym, ◌∙◌, groups, length-asks, length-results}
 use Rattle.source_report.proofs.Counted.{length-groups_from}
 use Rattle.source_report.proofs.counts.mutation_count.Goals as goal
 

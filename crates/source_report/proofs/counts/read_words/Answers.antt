@@ -1,7 +1,4 @@
-use Rattle.std.proofs.Common.{◌<◌, ◌++◌, [], ◌∷◌, List, ℕ, Option, length, map, ap, sym, ◌∙◌, arith}
-use Rattle.std.proofs.lemmas.List.{length-map, take_all}
-use Rattle.result_book.specs.Rows.{groups}
-use Rattle.result_book.specs.Scripts.{words_of}
+use Rattle.source_report.proofs.Common.{◌<◌, ◌++◌, [], ◌∷◌, List, ℕ, Option, length, map, ap, sym, ◌∙◌, arith, length-map, take_all, groups, words_of}
 use Rattle.source_report.proofs.Counted.{length-groups_from, taken-more, words-at}
 use Rattle.source_report.proofs.counts.read_words.Goals as goal
 

@@ -1,6 +1,4 @@
-use Rattle.std.proofs.Common.{◌+◌, ◌∷◌, List, ℕ, map, Bor, ap, sym, ◌∙◌, arith}
-use Rattle.std.proofs.lemmas.List.{get_or-map, length-map}
-use Rattle.source_report.specs.Sources.{lines_from}
+use Rattle.source_report.proofs.Common.{◌+◌, ◌∷◌, List, ℕ, map, Bor, ap, sym, ◌∙◌, arith, get_or-map, length-map, lines_from}
 use Rattle.source_report.proofs.FileLines.{line-inside}
 use Rattle.source_report.proofs.file_lines.line_at.Goals as goal
 

@@ -1,9 +1,5 @@
-use Rattle.std.proofs.Common.{◌≡◌, ◌≤◌, List, length, replicate, slice_index, count_by, ap, ◌∙◌, arith}
-use Rattle.std.specs.List.{zip}
-use Rattle.std.proofs.lemmas.List.{get_or-replicate, length-replicate, take_all}
+use Rattle.source_report.proofs.Common.{◌≡◌, ◌≤◌, List, length, replicate, slice_index, count_by, ap, ◌∙◌, arith, zip, get_or-replicate, length-replicate, take_all, groups, is_counted}
 use Rattle.std.proofs.lemmas.Slice.Zip.{length-zip}
-use Rattle.result_book.specs.Rows.{groups}
-use Rattle.source_report.specs.Sources.{is_counted}
 use Rattle.source_report.proofs.Counted.{asks_told, length-groups_from}
 use Rattle.source_report.proofs.LineCounting.{counted-all, row-few, row-inside, seen-more, slice_get-zip, Mutation}
 use Rattle.source_report.proofs.line_counts.counts_of.Goals as goal

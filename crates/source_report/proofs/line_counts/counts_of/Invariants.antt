@@ -1,5 +1,4 @@
-use Rattle.std.proofs.Common.{take}
-use Rattle.std.specs.List.{zip}
+use Rattle.source_report.proofs.Common.{take, zip}
 use Rattle.source_report.proofs.LineCounting.{AreSeen}
 use Rattle.source_report.proofs.line_counts.counts_of.Given as goal
 

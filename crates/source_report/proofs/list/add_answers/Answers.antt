@@ -1,4 +1,4 @@
-use Rattle.std.proofs.Common.{◌∙◌}
+use Rattle.source_report.proofs.Common.{◌∙◌}
 use Rattle.source_report.proofs.Lines.{answers_text-more}
 use Rattle.source_report.proofs.list.add_answers.Goals as goal
 

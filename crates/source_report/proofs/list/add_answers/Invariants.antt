@@ -1,5 +1,4 @@
-use Rattle.std.proofs.Common.{◌≡◌, ◌++◌, [], drop}
-use Rattle.source_report.specs.Lists.{answers_text}
+use Rattle.source_report.proofs.Common.{◌≡◌, ◌++◌, [], drop, answers_text}
 use Rattle.source_report.proofs.list.add_answers.Given as goal
 
 -- the answers so far and those to come are all answers

@@ -1,13 +1,5 @@
-use Rattle.std.proofs.Common.{◌≡◌, ◌++◌, ◌+◌, [], List, ℕ, length, codes, decimal, ap, sym, ◌∙◌, Some, slice_get, subst, ◌<◌, arith}
-use Rattle.std.specs.List.{All}
-use Rattle.std.proofs.lemmas.Result.{on_ok_weaker}
-use Rattle.tag_script.specs.declared.answer.Ask.{Ask}
-use Rattle.result_book.specs.declared.answer.Answer.{Answer}
-use Rattle.result_book.specs.Scripts.{ask}
-use Rattle.result_book.specs.Rows.{answers_of, ask_on, read_on}
-use Rattle.result_book.proofs.Reading.{read_asks, read_below}
-use Rattle.result_book.proofs.StateLemmas.{asks-at, length-asks}
-use Rattle.source_report.specs.Lists.{answers_text, end_text}
+use Rattle.source_report.proofs.Common.{◌≡◌, ◌++◌, ◌+◌, [], List, ℕ, length, codes, decimal, ap, sym, ◌∙◌, Some, slice_get, subst, ◌<◌, arith, All, on_ok_weaker, Ask, Answer, ask, answers_of, ask_on}
+use Rattle.source_report.proofs.Common.{read_on, read_asks, read_below, asks-at, length-asks, answers_text, end_text}
 use Rattle.source_report.proofs.Lines.{joined_behind}
 use Rattle.source_report.proofs.list.add_line.Goals as goal
 

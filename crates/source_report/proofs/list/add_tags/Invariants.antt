@@ -1,5 +1,4 @@
-use Rattle.std.proofs.Common.{◌≡◌, ◌++◌, drop}
-use Rattle.source_report.specs.Lists.{tags_text}
+use Rattle.source_report.proofs.Common.{◌≡◌, ◌++◌, drop, tags_text}
 use Rattle.source_report.proofs.list.add_tags.Given as goal
 
 -- the tags so far and those to come are all tags

@@ -1,7 +1,4 @@
-use Rattle.std.proofs.Common.{◌≡◌, ◌<◌, ◌+◌, ◌-◌, ◌++◌, [], length, drop, ap, sym, ◌∙◌, append-nil, arith}
-use Rattle.std.proofs.lemmas.List.{drop_all}
-use Rattle.result_book.specs.Rows.{groups_from}
-use Rattle.source_report.specs.Lists.{list_lines, list_text}
+use Rattle.source_report.proofs.Common.{◌≡◌, ◌<◌, ◌+◌, ◌-◌, ◌++◌, [], length, drop, ap, sym, ◌∙◌, append-nil, arith, drop_all, groups_from, list_lines, list_text}
 use Rattle.source_report.proofs.Lines.{list_lines-more}
 use Rattle.source_report.proofs.list.list_text.Goals as goal
 

@@ -1,6 +1,4 @@
-use Rattle.std.proofs.Common.{◌≡◌, ◌-◌, ◌++◌, length, drop}
-use Rattle.result_book.specs.Rows.{groups, groups_from}
-use Rattle.source_report.specs.Lists.{list_lines}
+use Rattle.source_report.proofs.Common.{◌≡◌, ◌-◌, ◌++◌, length, drop, groups, groups_from, list_lines}
 use Rattle.source_report.proofs.list.list_text.Given as goal
 
 -- the lines so far and those to come are all lines

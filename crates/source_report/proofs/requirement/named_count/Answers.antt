@@ -1,7 +1,4 @@
-use Rattle.std.proofs.Common.{◌≡◌, [], length, drop, ap, ◌∙◌, arith}
-use Rattle.std.proofs.lemmas.List.{drop_all}
-use Rattle.result_book.specs.Rows.{groups}
-use Rattle.source_report.specs.Requirements.{named_count}
+use Rattle.source_report.proofs.Common.{◌≡◌, [], length, drop, ap, ◌∙◌, arith, drop_all, groups, named_count}
 use Rattle.source_report.proofs.Named.{named-more}
 use Rattle.source_report.proofs.requirement.named_count.Goals as goal
 

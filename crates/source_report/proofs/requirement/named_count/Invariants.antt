@@ -1,6 +1,4 @@
-use Rattle.std.proofs.Common.{◌≡◌, ◌+◌, ◌*◌, ◌≤◌, drop}
-use Rattle.result_book.specs.Rows.{groups}
-use Rattle.source_report.specs.Requirements.{named_count}
+use Rattle.source_report.proofs.Common.{◌≡◌, ◌+◌, ◌*◌, ◌≤◌, drop, groups, named_count}
 use Rattle.source_report.proofs.requirement.named_count.Given as goal
 
 -- the sum so far and that of the tags to come are the sum of all

@@ -1,5 +1,4 @@
-use Rattle.std.proofs.Common.{arith}
-use Rattle.source_report.specs.declared.counts.End.TheVariants.{Tag}
+use Rattle.source_report.proofs.Common.{arith, Tag}
 use Rattle.source_report.proofs.Named.{ends_few}
 use Rattle.source_report.proofs.requirement.tag_count.Goals as goal
 

@@ -1,4 +1,4 @@
-use Rattle.std.proofs.Common.{◌≡◌, ◌++◌, replicate}
+use Rattle.source_report.proofs.Common.{◌≡◌, ◌++◌, replicate}
 use Rattle.source_report.proofs.source.add_blanks.Given as goal
 
 -- the blanks so far and those to come are all blanks

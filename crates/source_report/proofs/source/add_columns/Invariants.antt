@@ -1,5 +1,4 @@
-use Rattle.std.proofs.Common.{◌≡◌, ◌++◌, drop}
-use Rattle.source_report.specs.Sources.{columns}
+use Rattle.source_report.proofs.Common.{◌≡◌, ◌++◌, drop, columns}
 use Rattle.source_report.proofs.source.add_columns.Given as goal
 
 -- the columns so far and those to come are all columns

@@ -1,9 +1,6 @@
-use Rattle.std.proofs.Common.{◌≡◌, ◌+◌, ◌<◌, ◌++◌, [], ◌∷◌, List, ℕ, map, slice_index, Option, Some, None, IfNone, refl, ap, sym, subst, ◌∙◌, append-nil, append_assoc, arith}
-use Rattle.std.proofs.lemmas.List.{drop_all, get_or_read, length-map}
+use Rattle.source_report.proofs.Common.{◌≡◌, ◌+◌, ◌<◌, ◌++◌, [], ◌∷◌, List, ℕ, map, slice_index, Option, Some, None, IfNone, refl, ap, sym, subst, ◌∙◌, append-nil, append_assoc, arith, drop_all}
+use Rattle.source_report.proofs.Common.{get_or_read, length-map, lines, lines_of_parts, groups, head_text, lines_from, source_lines}
 use Rattle.std.specs.Borrow.{Bor}
-use Rattle.std.specs.Str.Lines.{lines, lines_of_parts}
-use Rattle.result_book.specs.Rows.{groups}
-use Rattle.source_report.specs.Sources.{head_text, lines_from, source_lines}
 use Rattle.source_report.proofs.LineCounting.{row-counts}
 use Rattle.source_report.proofs.Lines.{source_lines-more}
 use Rattle.source_report.proofs.source.add_file.Goals as goal

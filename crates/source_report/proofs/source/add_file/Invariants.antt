@@ -1,6 +1,4 @@
-use Rattle.std.proofs.Common.{◌≡◌, ◌+◌, ◌++◌}
-use Rattle.result_book.specs.Rows.{groups}
-use Rattle.source_report.specs.Sources.{lines_from, source_lines}
+use Rattle.source_report.proofs.Common.{◌≡◌, ◌+◌, ◌++◌, groups, lines_from, source_lines}
 use Rattle.source_report.proofs.source.add_file.Given as goal
 
 -- the lines so far and those to come are all lines

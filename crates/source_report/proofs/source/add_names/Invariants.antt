@@ -1,5 +1,4 @@
-use Rattle.std.proofs.Common.{◌≡◌, ◌++◌, drop}
-use Rattle.source_report.specs.Sources.{tag_names}
+use Rattle.source_report.proofs.Common.{◌≡◌, ◌++◌, drop, tag_names}
 use Rattle.source_report.proofs.source.add_names.Given as goal
 
 -- the names so far and those to come are all names

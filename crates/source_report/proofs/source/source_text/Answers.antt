@@ -1,7 +1,4 @@
-use Rattle.std.proofs.Common.{◌≡◌, ◌++◌, [], length, drop, ap, sym, ◌∙◌, append-nil, arith}
-use Rattle.std.proofs.lemmas.List.{drop_all}
-use Rattle.result_book.specs.Rows.{groups}
-use Rattle.source_report.specs.Sources.{file_texts, source_text}
+use Rattle.source_report.proofs.Common.{◌≡◌, ◌++◌, [], length, drop, ap, sym, ◌∙◌, append-nil, arith, drop_all, groups, file_texts, source_text}
 use Rattle.source_report.proofs.Lines.{file_texts-more}
 use Rattle.source_report.proofs.source.source_text.Goals as goal
 

@@ -1,6 +1,4 @@
-use Rattle.std.proofs.Common.{◌≡◌, ◌++◌, drop}
-use Rattle.result_book.specs.Rows.{groups}
-use Rattle.source_report.specs.Sources.{file_texts}
+use Rattle.source_report.proofs.Common.{◌≡◌, ◌++◌, drop, groups, file_texts}
 use Rattle.source_report.proofs.source.source_text.Given as goal
 
 -- the files so far and those to come are all files

@@ -1,7 +1,4 @@
-use Rattle.std.proofs.Common.{ℕ, ◌+◌, List, ◌++◌, length, drop, string_bytes, ap, ◌∙◌, arith}
-use Rattle.result_book.specs.Rows.{groups}
-use Rattle.source_report.specs.declared.counts.End.TheVariants.{Tag}
-use Rattle.source_report.specs.Texts.{end_count, tag_lines}
+use Rattle.source_report.proofs.Common.{ℕ, ◌+◌, List, ◌++◌, length, drop, string_bytes, ap, ◌∙◌, arith, groups, Tag, end_count, tag_lines}
 use Rattle.source_report.proofs.Lines.{tag_lines-more}
 use Rattle.source_report.proofs.status.add_tags.Goals as goal
 

@@ -1,6 +1,4 @@
-use Rattle.std.proofs.Common.{◌≡◌, ◌++◌, drop, string_bytes}
-use Rattle.result_book.specs.Rows.{groups}
-use Rattle.source_report.specs.Texts.{tag_lines}
+use Rattle.source_report.proofs.Common.{◌≡◌, ◌++◌, drop, string_bytes, groups, tag_lines}
 use Rattle.source_report.proofs.status.add_tags.Given as goal
 
 -- the lines so far and those to come are all lines

@@ -1,8 +1,4 @@
-use Rattle.std.proofs.Common.{◌≡◌, ap, ◌∙◌}
-use Rattle.std.proofs.lemmas.Result.{on_ok_weaker}
-use Rattle.result_book.specs.declared.script.TestWord.{TestWord}
-use Rattle.result_book.specs.declared.script.TestWord.TheVariants.{Pass, Fail}
-use Rattle.source_report.specs.Texts.{third_word, word_count, word_name}
+use Rattle.source_report.proofs.Common.{◌≡◌, ap, ◌∙◌, on_ok_weaker, TestWord, Pass, Fail, third_word, word_count, word_name}
 use Rattle.source_report.proofs.Counted.{words_told}
 use Rattle.source_report.proofs.Lines.{test_line-told}
 use Rattle.source_report.proofs.status.add_test.Goals as goal

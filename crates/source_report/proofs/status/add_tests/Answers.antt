@@ -1,6 +1,4 @@
-use Rattle.std.proofs.Common.{◌≡◌, ◌++◌, [], length, drop, get_or, string_bytes, ap, sym, ◌∙◌, append-nil, arith}
-use Rattle.std.proofs.lemmas.List.{drop_all}
-use Rattle.source_report.specs.Texts.{test_lines}
+use Rattle.source_report.proofs.Common.{◌≡◌, ◌++◌, [], length, drop, get_or, string_bytes, ap, sym, ◌∙◌, append-nil, arith, drop_all, test_lines}
 use Rattle.source_report.proofs.Lines.{test_lines-more}
 use Rattle.source_report.proofs.status.add_tests.Goals as goal
 

@@ -1,7 +1,4 @@
-use Rattle.std.proofs.Common.{◌≡◌, ◌++◌, List, drop, map, string_bytes}
-use Rattle.result_book.specs.declared.answer.Answer.{Answer}
-use Rattle.result_book.specs.Scripts.{words_of}
-use Rattle.source_report.specs.Texts.{test_lines}
+use Rattle.source_report.proofs.Common.{◌≡◌, ◌++◌, List, drop, map, string_bytes, Answer, words_of, test_lines}
 use Rattle.source_report.proofs.status.add_tests.Given as goal
 
 -- the lines so far and those to come are all lines

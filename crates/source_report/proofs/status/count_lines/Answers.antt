@@ -1,6 +1,4 @@
-use Rattle.std.proofs.Common.{◌++◌, ap, codes, string_bytes, ◌∙◌}
-use Rattle.result_book.specs.Rows.{groups}
-use Rattle.source_report.specs.Texts.{count_lines, number_line}
+use Rattle.source_report.proofs.Common.{◌++◌, ap, codes, string_bytes, ◌∙◌, groups, count_lines, number_line}
 use Rattle.source_report.proofs.Lines.{joined}
 use Rattle.source_report.proofs.status.count_lines.Goals as goal
 

@@ -1,8 +1,4 @@
-use Rattle.std.proofs.Common.{◌≡◌, ◌+◌, ◌++◌, [], length, drop, ap, sym, ◌∙◌, append-nil, arith}
-use Rattle.std.proofs.lemmas.List.{drop_all}
-use Rattle.result_book.specs.Rows.{groups}
-use Rattle.source_report.specs.declared.counts.End.TheVariants.{Tag}
-use Rattle.source_report.specs.Texts.{end_count, tag_counts}
+use Rattle.source_report.proofs.Common.{◌≡◌, ◌+◌, ◌++◌, [], length, drop, ap, sym, ◌∙◌, append-nil, arith, drop_all, groups, Tag, end_count, tag_counts}
 use Rattle.source_report.proofs.Lines.{tag_counts-more}
 use Rattle.source_report.proofs.status.tag_counts.Goals as goal
 

@@ -1,6 +1,4 @@
-use Rattle.std.proofs.Common.{◌≡◌, ◌++◌, drop}
-use Rattle.result_book.specs.Rows.{groups}
-use Rattle.source_report.specs.Texts.{tag_counts}
+use Rattle.source_report.proofs.Common.{◌≡◌, ◌++◌, drop, groups, tag_counts}
 use Rattle.source_report.proofs.status.tag_counts.Given as goal
 
 -- the counts so far and those to come are all counts

@@ -1,15 +1,6 @@
-use Rattle.std.proofs.Common.{◌≡◌, ◌⊎◌, ℕ, List, map, sym, subst}
-use Rattle.mcy_base.specs.declared.span.Span.{Span}
-use Rattle.vlog_token.specs.declared.token.Token.{Token}
-use Rattle.vlog_token.specs.Places.{place_after}
+use Rattle.source_trees.proofs.Common.{◌≡◌, ◌⊎◌, ℕ, List, map, sym, subst, Span, Token, place_after, Comes, IsCarriedOut, IsRefused, start, Gives, bare, token_of, ReadError, Memory, IsFileFault}
 use Rattle.vlog_token.specs.Sources.{AreTokensOf, seen}
-use Rattle.vlog_expand.specs.Files.{Comes, IsCarriedOut, IsRefused, start}
-use Rattle.vlog_expand.specs.Uses.{Gives}
-use Rattle.seen_tokens.specs.Bare.{bare, token_of}
 use Rattle.seen_tokens.proofs.BareFiles.{carried_out_bare, refused_bare}
-use Rattle.source_trees.specs.declared.error.ReadError.{ReadError}
-use Rattle.source_trees.specs.declared.error.ReadError.TheVariants.{Memory}
-use Rattle.source_trees.specs.Faults.{IsFileFault}
 use Rattle.source_trees.proofs.Steps.{bare_seen, directive_fault}
 use Rattle.source_trees.proofs.given.give_file.Goals as goal
 

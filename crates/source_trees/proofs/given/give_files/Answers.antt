@@ -1,15 +1,6 @@
-use Rattle.std.proofs.Common.{◌≡◌, ◌⊎◌, ℕ, ◌+◌, ◌<◌, List, [], ◌∷◌, ◌++◌, length, drop, map, refl, sym, ap, ◌∙◌, subst, arith}
-use Rattle.std.proofs.lemmas.List.{append-nil, drop_all}
-use Rattle.std.specs.Str.{IsUtf8}
+use Rattle.source_trees.proofs.Common.{◌≡◌, ◌⊎◌, ℕ, ◌+◌, ◌<◌, List, [], ◌∷◌, ◌++◌, length, drop, map, refl, sym, ap, ◌∙◌, subst, arith, append-nil, drop_all, IsUtf8, SourceFile, Token, Gives, bare}
+use Rattle.source_trees.proofs.Common.{ReadError, Memory, max_tokens, AreGiven, ComesTo, IsFileFault, IsUngiven}
 use Rattle.std.proofs.lemmas.Result.{err_from_is_err_and}
-use Rattle.mcy_base.specs.declared.file.SourceFile.{SourceFile}
-use Rattle.vlog_token.specs.declared.token.Token.{Token}
-use Rattle.vlog_expand.specs.Uses.{Gives}
-use Rattle.seen_tokens.specs.Bare.{bare}
-use Rattle.source_trees.specs.declared.error.ReadError.{ReadError}
-use Rattle.source_trees.specs.declared.error.ReadError.TheVariants.{Memory}
-use Rattle.source_trees.specs.Files.{max_tokens, AreGiven, ComesTo}
-use Rattle.source_trees.specs.Faults.{IsFileFault, IsUngiven}
 use Rattle.source_trees.proofs.Steps.{drop_read, file_refused, given_more, map_joined, ungiven_later}
 use Rattle.source_trees.proofs.given.give_files.Goals as goal
 

@@ -1,9 +1,4 @@
-use Rattle.std.proofs.Common.{◌++◌, List, drop, map}
-use Rattle.vlog_token.specs.declared.token.Token.{Token}
-use Rattle.seen_tokens.specs.Bare.{bare}
-use Rattle.source_trees.specs.declared.error.ReadError.{ReadError}
-use Rattle.source_trees.specs.Files.{max_tokens, AreGiven}
-use Rattle.source_trees.specs.Faults.{IsUngiven}
+use Rattle.source_trees.proofs.Common.{◌++◌, List, drop, map, Token, bare, ReadError, max_tokens, AreGiven, IsUngiven}
 use Rattle.source_trees.proofs.given.give_files.Given as goal
 
 abbrev pub invariant-loop-number : goal.invariant-loop-number

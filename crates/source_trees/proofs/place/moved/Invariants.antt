@@ -1,5 +1,4 @@
-use Rattle.std.proofs.Common.{◌≡◌, ◌+◌, ◌≤◌, take}
-use Rattle.vlog_token.specs.Places.{place_moved}
+use Rattle.source_trees.proofs.Common.{◌≡◌, ◌+◌, ◌≤◌, take, place_moved}
 use Rattle.source_trees.proofs.place.moved.Given as goal
 
 abbrev pub invariant-loop-byte : goal.invariant-loop-byte

@@ -1,7 +1,4 @@
-use Rattle.std.proofs.Common.{length, map, sym, ap, ◌∙◌}
-use Rattle.std.proofs.lemmas.List.{length-map}
-use Rattle.seen_tokens.specs.Bare.{bare}
-use Rattle.source_trees.specs.Files.{max_tokens}
+use Rattle.source_trees.proofs.Common.{length, map, sym, ap, ◌∙◌, length-map, bare, max_tokens}
 use Rattle.source_trees.proofs.Steps.{given_length}
 use Rattle.source_trees.proofs.reading.read_modules.Goals as goal
 

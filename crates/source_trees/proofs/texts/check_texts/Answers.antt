@@ -1,8 +1,4 @@
-use Rattle.std.proofs.Common.{ℕ, ◌+◌, ◌<◌, List, length, drop, take, sym, subst, arith}
-use Rattle.std.specs.Str.{IsUtf8}
-use Rattle.std.proofs.lemmas.List.{take_all}
-use Rattle.std.proofs.lemmas.List.Elements.{All-more, All-same}
-use Rattle.mcy_base.specs.declared.file.SourceFile.{SourceFile}
+use Rattle.source_trees.proofs.Common.{ℕ, ◌+◌, ◌<◌, List, length, drop, take, sym, subst, arith, IsUtf8, take_all, All-more, All-same, SourceFile}
 use Rattle.source_trees.proofs.Steps.{drop_read, text_fault_later}
 use Rattle.source_trees.proofs.texts.check_texts.Goals as goal
 

@@ -1,7 +1,4 @@
-use Rattle.std.proofs.Common.{All, drop, take}
-use Rattle.std.specs.Str.{IsUtf8}
-use Rattle.source_trees.specs.declared.error.ReadError.{ReadError}
-use Rattle.source_trees.specs.Faults.{IsNoText}
+use Rattle.source_trees.proofs.Common.{All, drop, take, IsUtf8, ReadError, IsNoText}
 use Rattle.source_trees.proofs.texts.check_texts.Given as goal
 
 abbrev pub invariant-loop-number : goal.invariant-loop-number

@@ -1,20 +1,6 @@
-use Rattle.std.proofs.Common.{◌≡◌, ◌⊎◌, ℕ, ◌+◌, ◌<◌, ◌≤◌, List, ◌∷◌, ◌++◌, [], length, drop, map, refl, sym, ap, ◌∙◌, subst, append_assoc, arith}
-use Rattle.std.proofs.lemmas.List.{append-nil, drop_all}
-use Rattle.std.proofs.lemmas.List.Elements.{All-append, All-same}
-use Rattle.mcy_base.specs.declared.file.SourceFile.{SourceFile}
-use Rattle.mcy_base.specs.declared.span.Span.{Span}
-use Rattle.vlog_token.specs.Places.{place_after}
-use Rattle.vlog_expand.specs.declared.error.ParseError.{ParseError}
-use Rattle.vlog_syntax.specs.declared.module.Module.{Module}
-use Rattle.vlog_syntax.specs.Nesting.{module_nest}
-use Rattle.vlog_token.specs.declared.token.Token.{Token}
-use Rattle.vlog_parse.specs.Parsing.{AreParsed, IsFault}
-use Rattle.seen_tokens.specs.Bare.{bare}
+use Rattle.source_trees.proofs.Common.{◌≡◌, ◌⊎◌, ℕ, ◌+◌, ◌<◌, ◌≤◌, List, ◌∷◌, ◌++◌, [], length, drop, map, refl, sym, ap, ◌∙◌, subst, append_assoc, arith, append-nil, drop_all, All-append, All-same}
+use Rattle.source_trees.proofs.Common.{SourceFile, Span, place_after, ParseError, Module, module_nest, Token, AreParsed, IsFault, bare, ReadError, Memory, AreModules, IsUnparsed}
 use Rattle.seen_tokens.proofs.BareTrees.{fault_bare, parsed_bare}
-use Rattle.source_trees.specs.declared.error.ReadError.{ReadError}
-use Rattle.source_trees.specs.declared.error.ReadError.TheVariants.{Memory}
-use Rattle.source_trees.specs.Files.{AreModules}
-use Rattle.source_trees.specs.Faults.{IsUnparsed}
 use Rattle.source_trees.proofs.Steps.{drop_read, modules_more, parse_refused, unparsed_later}
 use Rattle.source_trees.proofs.trees.parse_files.Goals as goal
 

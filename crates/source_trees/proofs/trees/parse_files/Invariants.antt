@@ -1,10 +1,4 @@
-use Rattle.std.proofs.Common.{◌≤◌, ◌++◌, All, List, drop, map}
-use Rattle.vlog_syntax.specs.declared.module.Module.{Module}
-use Rattle.vlog_syntax.specs.Nesting.{module_nest}
-use Rattle.seen_tokens.specs.Bare.{bare}
-use Rattle.source_trees.specs.declared.error.ReadError.{ReadError}
-use Rattle.source_trees.specs.Files.{AreModules}
-use Rattle.source_trees.specs.Faults.{IsUnparsed}
+use Rattle.source_trees.proofs.Common.{◌≤◌, ◌++◌, All, List, drop, map, Module, module_nest, bare, ReadError, AreModules, IsUnparsed}
 use Rattle.source_trees.proofs.trees.parse_files.Given as goal
 
 abbrev pub invariant-loop-number : goal.invariant-loop-number

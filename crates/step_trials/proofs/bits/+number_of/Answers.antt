@@ -1,6 +1,4 @@
-use Rattle.std.proofs.Common.{sym, ◌∙◌, refl, arith, length-drop}
-use Rattle.std.proofs.lemmas.List.{length-take}
-use Rattle.step_trials.specs.Tables.{nets_of}
+use Rattle.step_trials.proofs.Common.{sym, ◌∙◌, refl, arith, length-drop, length-take, nets_of}
 use Rattle.step_trials.proofs.TableLemmas.{small, number-first}
 use Rattle.step_trials.proofs.bits.+number_of.Goals as goal
 

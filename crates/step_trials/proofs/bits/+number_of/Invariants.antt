@@ -1,4 +1,4 @@
-use Rattle.std.proofs.Common.{length}
+use Rattle.step_trials.proofs.Common.{length}
 use Rattle.step_trials.proofs.bits.+number_of.Given as goal
 
 abbrev pub decreases-number_of : goal.decreases-number_of

@@ -1,8 +1,4 @@
-use Rattle.std.proofs.Common.{◌≡◌, Bool, List, ℕ, length, ap, sym, ◌∙◌}
-use Rattle.netlist_core.specs.Numbers.{low_bits, number}
-use Rattle.netlist_core.specs.Runs.{values}
-use Rattle.netlist_core.proofs.Settles.{length-values}
-use Rattle.step_trials.specs.Tables.{nets_of}
+use Rattle.step_trials.proofs.Common.{◌≡◌, Bool, List, ℕ, length, ap, sym, ◌∙◌, low_bits, number, values, length-values, nets_of}
 use Rattle.step_trials.proofs.TableLemmas.{bits-number, some-word, word-parts}
 use Rattle.step_trials.proofs.bits.word_of.Goals as goal
 

@@ -1,8 +1,4 @@
-use Rattle.std.proofs.Common.{◌≤◌, ℕ, List, ◌∷◌, [], length, sym, ◌∙◌, subst, arith}
-use Rattle.std.proofs.lemmas.Nat.{pow_below}
-use Rattle.std.proofs.lemmas.List.{length-append}
-use Rattle.step_trials.specs.Equal.{design}
-use Rattle.step_trials.specs.Trials.{GivesAt}
+use Rattle.step_trials.proofs.Common.{◌≤◌, ℕ, List, ◌∷◌, [], length, sym, ◌∙◌, subst, arith, pow_below, length-append, design, GivesAt}
 use Rattle.step_trials.proofs.TrialLemmas.{GivesAll-push}
 use Rattle.step_trials.proofs.design.all_given.Goals as goal
 

@@ -1,6 +1,4 @@
-use Rattle.std.proofs.Common.{◌≡◌, length}
-use Rattle.step_trials.specs.Equal.{design}
-use Rattle.step_trials.specs.Trials.{GivesAll}
+use Rattle.step_trials.proofs.Common.{◌≡◌, length, design, GivesAll}
 use Rattle.step_trials.proofs.design.all_given.Given as goal
 
 abbrev pub invariant-loop-number : goal.invariant-loop-number

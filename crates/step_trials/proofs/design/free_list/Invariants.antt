@@ -1,6 +1,4 @@
-use Rattle.std.proofs.Common.{◌≡◌, ◌++◌, drop}
-use Rattle.netlist_core.specs.Runs.{bits_at, q_bits}
-use Rattle.step_trials.specs.Inputs.{joined}
+use Rattle.step_trials.proofs.Common.{◌≡◌, ◌++◌, drop, bits_at, q_bits, joined}
 use Rattle.step_trials.proofs.design.free_list.Given as goal
 
 abbrev pub invariant-loop-register : goal.invariant-loop-register

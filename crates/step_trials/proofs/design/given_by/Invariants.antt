@@ -1,6 +1,4 @@
-use Rattle.std.proofs.Common.{◌≡◌, ◌++◌, take}
-use Rattle.netlist_core.specs.Runs.{bits_at, d_bits, port_numbers}
-use Rattle.step_trials.specs.Tables.{nets_of}
+use Rattle.step_trials.proofs.Common.{◌≡◌, ◌++◌, take, bits_at, d_bits, port_numbers, nets_of}
 use Rattle.step_trials.proofs.design.given_by.Given as goal
 
 abbrev pub invariant-loop-register : goal.invariant-loop-register

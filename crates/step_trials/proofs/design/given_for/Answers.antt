@@ -1,15 +1,5 @@
-use Rattle.std.proofs.Common.{◌≡◌, ℕ, List, ◌++◌, ◌∙◌, ap, sym, subst}
-use Rattle.std.proofs.lemmas.Result.{IfOk-weaker}
-use Rattle.netlist_core.specs.declared.bit.Bit.{Bit}
-use Rattle.netlist_core.specs.declared.port.Port.{Port}
-use Rattle.netlist_core.specs.declared.port.Register.{Register}
-use Rattle.netlist_core.specs.declared.raw.RawNetlist.{RawNetlist}
-use Rattle.netlist_core.specs.Runs.{Nets, plain, bits_at, d_bits, port_numbers}
-use Rattle.netlist_core.specs.Settled.{laid, after_order}
-use Rattle.step_trials.specs.Equal.{design}
-use Rattle.step_trials.specs.Tables.{nets_of}
-use Rattle.step_trials.specs.Inputs.{free_list}
-use Rattle.step_trials.specs.Trials.{given, GivesAt}
+use Rattle.step_trials.proofs.Common.{◌≡◌, ℕ, List, ◌++◌, ◌∙◌, ap, sym, subst, IfOk-weaker, Bit, Port, Register, RawNetlist, Nets, plain, bits_at, d_bits, port_numbers, laid, after_order, design}
+use Rattle.step_trials.proofs.Common.{nets_of, free_list, given, GivesAt}
 use Rattle.step_trials.proofs.Settles.{computed, computed-gives, taken-plain, d-wide}
 use Rattle.step_trials.proofs.TableLemmas.{free_below}
 use Rattle.step_trials.proofs.design.given_for.Goals as goal

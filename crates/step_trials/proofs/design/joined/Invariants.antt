@@ -1,6 +1,4 @@
-use Rattle.std.proofs.Common.{◌≡◌, ◌++◌, drop}
-use Rattle.netlist_core.specs.Runs.{bits_at}
-use Rattle.step_trials.specs.Inputs.{joined}
+use Rattle.step_trials.proofs.Common.{◌≡◌, ◌++◌, drop, bits_at, joined}
 use Rattle.step_trials.proofs.design.joined.Given as goal
 
 abbrev pub invariant-loop-port : goal.invariant-loop-port

@@ -1,6 +1,4 @@
-use Rattle.std.proofs.Common.{◌≡◌, take}
-use Rattle.netlist_core.specs.Runs.{bits_at, port_numbers}
-use Rattle.step_trials.specs.Tables.{nets_of}
+use Rattle.step_trials.proofs.Common.{◌≡◌, take, bits_at, port_numbers, nets_of}
 use Rattle.step_trials.proofs.design.port_numbers.Given as goal
 
 abbrev pub invariant-loop-port : goal.invariant-loop-port

@@ -1,8 +1,5 @@
-use Rattle.std.proofs.Common.{◌≡◌, Bool, List, length, map, ap, ◌∙◌}
-use Rattle.netlist_core.specs.Cells.{cell_value}
-use Rattle.netlist_core.specs.Runs.{input_ports, output_port, values}
+use Rattle.step_trials.proofs.Common.{◌≡◌, Bool, List, length, map, ap, ◌∙◌, cell_value, input_ports, output_port, values, nets_of}
 use Rattle.cell_meaning.specs.Words.{bits_of}
-use Rattle.step_trials.specs.Tables.{nets_of}
 use Rattle.step_trials.proofs.CellPorts.{shape-inputs}
 use Rattle.step_trials.proofs.TableLemmas.{plain-ports}
 use Rattle.step_trials.proofs.settle.compute.Goals as goal

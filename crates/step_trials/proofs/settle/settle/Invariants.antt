@@ -1,7 +1,4 @@
-use Rattle.std.proofs.Common.{◌≡◌, drop}
-use Rattle.netlist_core.specs.Runs.{plain}
-use Rattle.netlist_core.specs.Settled.{after_order}
-use Rattle.step_trials.specs.Tables.{nets_of}
+use Rattle.step_trials.proofs.Common.{◌≡◌, drop, plain, after_order, nets_of}
 use Rattle.step_trials.proofs.settle.settle.Given as goal
 
 abbrev pub invariant-loop-i : goal.invariant-loop-i

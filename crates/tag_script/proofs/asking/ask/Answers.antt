@@ -1,6 +1,4 @@
-use Rattle.std.proofs.Common.{sym, subst, ap, ◌∙◌}
-use Rattle.tag_script.specs.Fits.{NeedsBelow}
-use Rattle.tag_script.specs.Hearing.{ask_told}
+use Rattle.tag_script.proofs.Common.{sym, subst, ap, ◌∙◌, NeedsBelow, ask_told}
 use Rattle.tag_script.proofs.Below.{script_needs}
 use Rattle.tag_script.proofs.asking.ask.Goals as goal
 

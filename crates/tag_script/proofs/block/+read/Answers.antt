@@ -1,6 +1,5 @@
-use Rattle.std.proofs.Common.{refl, ◌∙◌}
+use Rattle.tag_script.proofs.Common.{refl, ◌∙◌, project_of}
 use Rattle.tag_script.specs.Blocks.{body_in}
-use Rattle.tag_script.specs.Checks.{project_of}
 use Rattle.tag_script.proofs.Lines.{part_fault, part_is, whole_end, whole_fault, whole_first, whole_more}
 use Rattle.tag_script.proofs.block.+read.Goals as goal
 

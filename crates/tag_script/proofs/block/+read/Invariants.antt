@@ -1,5 +1,4 @@
-use Rattle.std.proofs.Common.{◌+◌, ◌*◌, length}
-use Rattle.tag_script.specs.Checks.{project_of}
+use Rattle.tag_script.proofs.Common.{◌+◌, ◌*◌, length, project_of}
 use Rattle.tag_script.proofs.Lines.{Whole}
 use Rattle.tag_script.proofs.block.+read.Given as goal
 

@@ -1,6 +1,4 @@
-use Rattle.std.proofs.Common.{◌≡◌, ◌+◌, drop}
-use Rattle.std.specs.List.{prefix_len}
-use Rattle.tag_script.specs.Checks.{is_further}
+use Rattle.tag_script.proofs.Common.{◌≡◌, ◌+◌, drop, prefix_len, is_further}
 use Rattle.tag_script.proofs.block.body_len.Given as goal
 
 abbrev pub invariant-loop-i : goal.invariant-loop-i

@@ -1,12 +1,5 @@
-use Rattle.std.proofs.Common.{ℕ, true, false, List, sym, ap, ◌∙◌, map, Ok, arith}
-use Rattle.std.specs.Prelude.{bit_or}
-use Rattle.std.proofs.lemmas.List.{at_drop_all}
-use Rattle.std.proofs.lemmas.Result.{err_from_is_err_and}
-use Rattle.tag_script.specs.declared.script.Arm.{Arm}
-use Rattle.tag_script.specs.declared.script.Statement.{Statement}
-use Rattle.tag_script.specs.Courses.{Standing, choice, chosen, doing, in_turn}
-use Rattle.tag_script.specs.Hearing.{heard, standing_of}
-use Rattle.tag_script.specs.Values.{datum_of}
+use Rattle.tag_script.proofs.Common.{ℕ, true, false, List, sym, ap, ◌∙◌, map, Ok, arith, bit_or, at_drop_all, err_from_is_err_and, Arm, Statement, Standing, choice, chosen, doing, in_turn, heard}
+use Rattle.tag_script.proofs.Common.{standing_of, datum_of}
 use Rattle.tag_script.proofs.Done.{assert_fails, assert_holds, assert_stops, assign_heard, assign_stops, tag_heard}
 use Rattle.tag_script.proofs.Following.{ended_is}
 use Rattle.tag_script.proofs.Walking.{arm_heard, arm_stops, turn_heard, turn_stops}

@@ -1,6 +1,4 @@
-use Rattle.std.proofs.Common.{◌≡◌, map, drop}
-use Rattle.tag_script.specs.Courses.{Doing, choice, chosen, doing, in_turn}
-use Rattle.tag_script.specs.Hearing.{heard, standing_of}
+use Rattle.tag_script.proofs.Common.{◌≡◌, map, drop, Doing, choice, chosen, doing, in_turn, heard, standing_of}
 use Rattle.tag_script.proofs.evaluation.+doing.Given as goal
 
 abbrev pub invariant-in_turn-loop-statement : goal.invariant-in_turn-loop-statement

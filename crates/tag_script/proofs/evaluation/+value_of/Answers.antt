@@ -1,11 +1,5 @@
-use Rattle.std.proofs.Common.{ℕ, Bool, true, false, List, sym, ap, ◌∙◌, map, not, Ok, arith}
-use Rattle.std.proofs.lemmas.List.{at_drop_all}
-use Rattle.std.proofs.lemmas.Result.{err_from_is_err_and}
-use Rattle.tag_lines.specs.declared.expr.Expr.{Expr}
+use Rattle.tag_script.proofs.Common.{ℕ, Bool, true, false, List, sym, ap, ◌∙◌, map, not, Ok, arith, at_drop_all, err_from_is_err_and, Expr, decided, value_of, heard, word_read, datum_of, text, truth}
 use Rattle.tag_lines.specs.declared.expr.Expr.TheVariants.{Compare, Not, Text}
-use Rattle.tag_script.specs.Courses.{decided, value_of}
-use Rattle.tag_script.specs.Hearing.{heard, word_read}
-use Rattle.tag_script.specs.Values.{datum_of, text, truth}
 use Rattle.tag_script.proofs.Following.{ended_is}
 use Rattle.tag_script.proofs.Valued.{compare_heard, left_stops, name_heard, not_heard, not_stops, number_heard, right_stops, text_heard, word_heard, word_stops}
 use Rattle.tag_script.proofs.Walking.{operand_heard, operand_stops}

@@ -1,7 +1,4 @@
-use Rattle.std.proofs.Common.{◌≡◌, map, drop}
-use Rattle.tag_script.specs.Courses.{decided, value_of}
-use Rattle.tag_script.specs.Hearing.{heard}
-use Rattle.tag_script.specs.Values.{datum_of, number}
+use Rattle.tag_script.proofs.Common.{◌≡◌, map, drop, decided, value_of, heard, datum_of, number}
 use Rattle.tag_script.proofs.evaluation.+value_of.Given as goal
 
 abbrev pub invariant-decided-loop-operand : goal.invariant-decided-loop-operand

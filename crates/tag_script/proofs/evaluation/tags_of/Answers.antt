@@ -1,8 +1,4 @@
-use Rattle.std.proofs.Common.{List, map, sym, ap, ◌∙◌}
-use Rattle.std.proofs.lemmas.Result.{err_from_is_err_and}
-use Rattle.tag_script.specs.declared.script.Statement.{Statement}
-use Rattle.tag_script.specs.Courses.{course_of, doing, ended, followed, in_turn, start}
-use Rattle.tag_script.specs.Hearing.{heard, standing_of}
+use Rattle.tag_script.proofs.Common.{List, map, sym, ap, ◌∙◌, err_from_is_err_and, Statement, course_of, doing, ended, followed, in_turn, start, heard, standing_of}
 use Rattle.tag_script.proofs.Following.{ended_is, followed_err, followed_ok}
 use Rattle.tag_script.proofs.evaluation.tags_of.Goals as goal
 

@@ -1,7 +1,4 @@
-use Rattle.std.proofs.Common.{List, ap}
-use Rattle.std.proofs.lemmas.List.{map-set}
-use Rattle.tag_script.specs.Courses.{Standing}
-use Rattle.tag_script.specs.Values.{Datum, datum_of}
+use Rattle.tag_script.proofs.Common.{List, ap, map-set, Standing, Datum, datum_of}
 use Rattle.tag_script.proofs.evaluation.with_value.Goals as goal
 
 pub returns-then-place-lt32 : goal.returns-then-place-lt32

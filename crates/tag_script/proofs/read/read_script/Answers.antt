@@ -1,5 +1,4 @@
-use Rattle.std.proofs.Common.{◌≡◌, ℕ, true, List, IfOk, length, subst}
-use Rattle.tag_script.specs.Fits.{script_fits}
+use Rattle.tag_script.proofs.Common.{◌≡◌, ℕ, true, List, IfOk, length, subst, script_fits}
 use Rattle.tag_script.proofs.Fitting.{reads_fit}
 use Rattle.tag_script.proofs.read.read_script.Goals as goal
 

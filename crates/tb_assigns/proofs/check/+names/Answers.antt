@@ -1,5 +1,4 @@
-use Rattle.std.proofs.Common.{add-one}
-use Rattle.vlog_meaning.specs.Scopes.{names_of}
+use Rattle.tb_assigns.proofs.Common.{add-one, names_of}
 use Rattle.tb_assigns.proofs.Checking.{signals_next}
 use Rattle.tb_assigns.proofs.check.+names.Goals as goal
 

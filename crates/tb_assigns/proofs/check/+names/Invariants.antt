@@ -1,7 +1,4 @@
-use Rattle.std.proofs.Common.{◌≡◌, map, take}
-use Rattle.vlog_meaning.specs.Scopes.{names_of}
-use Rattle.vlog_effects.specs.LeftSides.{parts_of, concatenated}
-use Rattle.tb_assigns.specs.Checks.{all_signals}
+use Rattle.tb_assigns.proofs.Common.{◌≡◌, map, take, names_of, parts_of, concatenated, all_signals}
 use Rattle.tb_assigns.proofs.check.+names.Given as goal
 
 abbrev pub invariant-all_name_signals-loop-part : goal.invariant-all_name_signals-loop-part

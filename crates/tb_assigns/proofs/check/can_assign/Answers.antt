@@ -1,4 +1,4 @@
-use Rattle.vlog_meaning.specs.Scopes.{names_of}
+use Rattle.tb_assigns.proofs.Common.{names_of}
 use Rattle.tb_assigns.proofs.Checking.{check_is, check_can}
 use Rattle.tb_assigns.proofs.check.can_assign.Goals as goal
 

@@ -1,5 +1,4 @@
-use Rattle.vlog_meaning.specs.Scopes.{names_of}
-use Rattle.vlog_meaning.specs.Senses.{sense}
+use Rattle.tb_assigns.proofs.Common.{names_of, sense}
 use Rattle.tb_assigns.proofs.Checking.{without_fault, with_fault}
 use Rattle.tb_assigns.proofs.check.has_shape.Goals as goal
 

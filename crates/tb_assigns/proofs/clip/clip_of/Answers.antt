@@ -1,6 +1,4 @@
-use Rattle.std.proofs.Common.{ℕ, ◌+◌, ◌-◌, ◌/◌, ◌^◌, min, ap, ◌∙◌}
-use Rattle.tb_assigns.specs.Pieces.{vector_is}
-use Rattle.tb_assigns.specs.Updates.{some_bits}
+use Rattle.tb_assigns.proofs.Common.{ℕ, ◌+◌, ◌-◌, ◌/◌, ◌^◌, min, ap, ◌∙◌, vector_is, some_bits}
 use Rattle.tb_assigns.proofs.Clips.{negative_below}
 use Rattle.tb_assigns.proofs.clip.clip_of.Goals as goal
 

@@ -1,6 +1,4 @@
-use Rattle.std.proofs.Common.{arith, sym}
-use Rattle.std.proofs.Math.Nat.{mod-eq_of_lt}
-use Rattle.vlog_meaning.proofs.Powers.{power_le}
+use Rattle.tb_assigns.proofs.Common.{arith, sym, mod-eq_of_lt, power_le}
 use Rattle.tb_assigns.proofs.clip.low_bits.Goals as goal
 
 pub returns-else-size-lt128 : goal.returns-else-size-lt128

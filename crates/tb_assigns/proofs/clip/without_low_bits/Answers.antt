@@ -1,5 +1,4 @@
-use Rattle.std.proofs.Common.{arith, sym}
-use Rattle.vlog_meaning.proofs.Powers.{no_bits_left}
+use Rattle.tb_assigns.proofs.Common.{arith, sym, no_bits_left}
 use Rattle.tb_assigns.proofs.clip.without_low_bits.Goals as goal
 
 pub returns-else-size-lt128 : goal.returns-else-size-lt128

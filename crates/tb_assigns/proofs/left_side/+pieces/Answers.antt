@@ -1,7 +1,4 @@
-use Rattle.std.proofs.Common.{◌∙◌, ap, rules, add-one}
-use Rattle.vlog_syntax.specs.declared.left_side.LeftSide.TheViews.{the_lemmas}
-use Rattle.vlog_meaning.specs.Scopes.{names_of, store_of}
-use Rattle.vlog_effects.specs.LeftSides.{Whole, Bit, Range, Indexed, parts_of}
+use Rattle.tb_assigns.proofs.Common.{◌∙◌, ap, rules, add-one, the_lemmas, names_of, store_of, Whole, Bit, Range, Indexed, parts_of}
 use Rattle.vlog_effects.proofs.Folds.{parts-name, parts-bit, parts-range, parts-indexed}
 use Rattle.tb_assigns.proofs.Parts.{parts_element}
 use Rattle.tb_assigns.proofs.Drawing.{one_drawn, none_drawn, next_drawn}

@@ -1,7 +1,4 @@
-use Rattle.std.proofs.Common.{map, take}
-use Rattle.vlog_meaning.specs.Scopes.{names_of, store_of}
-use Rattle.vlog_effects.specs.LeftSides.{parts_of, concatenated}
-use Rattle.tb_assigns.specs.Pieces.{AreDrawn}
+use Rattle.tb_assigns.proofs.Common.{map, take, names_of, store_of, parts_of, concatenated, AreDrawn}
 use Rattle.tb_assigns.proofs.left_side.+pieces.Given as goal
 
 abbrev pub invariant-push_all_pieces-loop-part : goal.invariant-push_all_pieces-loop-part

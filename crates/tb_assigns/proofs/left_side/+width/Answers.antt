@@ -1,6 +1,4 @@
-use Rattle.std.proofs.Common.{rules, add-one, arith}
-use Rattle.vlog_syntax.specs.declared.left_side.LeftSide.TheViews.{the_lemmas}
-use Rattle.vlog_meaning.specs.Scopes.{names_of}
+use Rattle.tb_assigns.proofs.Common.{rules, add-one, arith, the_lemmas, names_of}
 use Rattle.tb_assigns.proofs.Parts.{parts_element, width_fits, width_next}
 use Rattle.tb_assigns.proofs.left_side.+width.Goals as goal
 

@@ -1,6 +1,4 @@
-use Rattle.std.proofs.Common.{refl}
-use Rattle.vlog_meaning.specs.Scopes.{names_of, store_of}
-use Rattle.vlog_effects.specs.LeftSides.{Bit}
+use Rattle.tb_assigns.proofs.Common.{refl, names_of, store_of, Bit}
 use Rattle.tb_assigns.proofs.Drawing.{piece_drawn}
 use Rattle.tb_assigns.proofs.piece.bit_piece.Goals as goal
 

@@ -1,6 +1,4 @@
-use Rattle.std.proofs.Common.{ℕ, ap, ◌∙◌}
-use Rattle.vlog_meaning.specs.Scopes.{names_of, store_of}
-use Rattle.vlog_meaning.specs.Integers.{bound_integer}
+use Rattle.tb_assigns.proofs.Common.{ℕ, ap, ◌∙◌, names_of, store_of, bound_integer}
 use Rattle.tb_assigns.proofs.Drawing.{index_is}
 use Rattle.tb_assigns.proofs.piece.index_at.Goals as goal
 

@@ -1,5 +1,4 @@
-use Rattle.vlog_meaning.specs.Scopes.{names_of, store_of}
-use Rattle.vlog_effects.specs.LeftSides.{Indexed}
+use Rattle.tb_assigns.proofs.Common.{names_of, store_of, Indexed}
 use Rattle.tb_assigns.proofs.Drawing.{piece_drawn}
 use Rattle.tb_assigns.proofs.piece.indexed_piece.Goals as goal
 

@@ -1,9 +1,5 @@
-use Rattle.std.specs.Prelude.{ℤ, pos, ◌+ℤ◌, ◌-ℤ◌}
-use Rattle.std.proofs.Common.{ap, ◌∙◌}
-use Rattle.vlog_meaning.specs.Integers.{natural, bound_integer}
-use Rattle.vlog_meaning.specs.Scopes.{names_of}
+use Rattle.tb_assigns.proofs.Common.{ℤ, pos, ◌+ℤ◌, ◌-ℤ◌, ap, ◌∙◌, natural, bound_integer, names_of, Range}
 use Rattle.vlog_effects.specs.Expressions.{bound_of}
-use Rattle.vlog_effects.specs.LeftSides.{Range}
 use Rattle.tb_assigns.proofs.Drawing.{piece_drawn}
 use Rattle.tb_assigns.proofs.piece.range_piece.Goals as goal
 

@@ -1,7 +1,4 @@
-use Rattle.std.specs.Prelude.{ℤ, pos}
-use Rattle.std.proofs.Common.{refl, ap, ◌∙◌}
-use Rattle.vlog_meaning.specs.Scopes.{names_of}
-use Rattle.vlog_effects.specs.LeftSides.{Whole}
+use Rattle.tb_assigns.proofs.Common.{ℤ, pos, refl, ap, ◌∙◌, names_of, Whole}
 use Rattle.tb_assigns.proofs.Drawing.{piece_drawn}
 use Rattle.tb_assigns.proofs.piece.whole_piece.Goals as goal
 

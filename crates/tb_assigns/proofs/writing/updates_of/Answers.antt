@@ -1,4 +1,4 @@
-use Rattle.tb_assigns.specs.Pieces.{listed}
+use Rattle.tb_assigns.proofs.Common.{listed}
 use Rattle.tb_assigns.proofs.LastFirst.{piece_written}
 use Rattle.tb_assigns.proofs.writing.updates_of.Goals as goal
 

@@ -1,6 +1,4 @@
-use Rattle.std.proofs.Common.{◌≡◌, ◌++◌}
-use Rattle.tb_assigns.specs.Pieces.{windows_of}
-use Rattle.tb_assigns.specs.Updates.{updates_of}
+use Rattle.tb_assigns.proofs.Common.{◌≡◌, ◌++◌, windows_of, updates_of}
 use Rattle.tb_assigns.proofs.writing.updates_of.Given as goal
 
 -- what is written, and what the pieces that are left write with the rest of the value

@@ -1,6 +1,4 @@
-use Rattle.std.proofs.Common.{Bool, [], ◌∷◌, if◌then◌else◌}
-use Rattle.vlog_syntax.specs.declared.feature.Feature.TheVariants.{ClockList}
-use Rattle.tb_faults.specs.declared.fault.BenchFault.TheVariants.{Unsupported}
+use Rattle.tb_checks.proofs.Common.{Bool, [], ◌∷◌, if◌then◌else◌, ClockList, Unsupported}
 use Rattle.tb_checks.proofs.Firsts.{moved}
 use Rattle.tb_checks.proofs.controls.control_fault.Goals as goal
 

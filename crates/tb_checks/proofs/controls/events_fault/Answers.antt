@@ -1,6 +1,4 @@
-use Rattle.std.proofs.Common.{refl, add-one, arith}
-use Rattle.vlog_meaning.specs.Scopes.{names_of}
-use Rattle.tb_checks.specs.Statements.{event_faults}
+use Rattle.tb_checks.proofs.Common.{refl, add-one, arith, names_of, event_faults}
 use Rattle.tb_checks.proofs.Firsts.{more}
 use Rattle.tb_checks.proofs.controls.events_fault.Goals as goal
 

@@ -1,8 +1,4 @@
-use Rattle.std.proofs.Common.{take}
-use Rattle.std.specs.List.{flat_map}
-use Rattle.vlog_meaning.specs.Scopes.{names_of}
-use Rattle.tb_faults.specs.Order.{IsFirst}
-use Rattle.tb_checks.specs.Statements.{event_faults}
+use Rattle.tb_checks.proofs.Common.{take, flat_map, names_of, IsFirst, event_faults}
 use Rattle.tb_checks.proofs.controls.events_fault.Given as goal
 
 abbrev pub invariant-loop-event : goal.invariant-loop-event

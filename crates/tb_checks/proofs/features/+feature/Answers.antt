@@ -1,7 +1,4 @@
-use Rattle.std.proofs.Common.{◌++◌, refl, ap, ◌∙◌, take, add-one, arith}
-use Rattle.vlog_meaning.specs.Scopes.{names_of}
-use Rattle.vlog_meaning.specs.Senses.{sense, senses, index_features, binary_features, all_features}
-use Rattle.vlog_meaning.proofs.Refusals.{least_empty, pair_first}
+use Rattle.tb_checks.proofs.Common.{◌++◌, refl, ap, ◌∙◌, take, add-one, arith, names_of, sense, senses, index_features, binary_features, all_features, least_empty, pair_first}
 use Rattle.vlog_meaning.proofs.Steps as step
 use Rattle.tb_checks.proofs.Featured.{none_features, one_features, two_features, features_take}
 use Rattle.tb_checks.proofs.features.+feature.Goals as goal
@@ -16,13 +13,13 @@ pub feature_in-returns-in-PartSelect : goal.feature_in-returns-in-PartSelect
 feature_in-returns-in-PartSelect t c = none_features (names_of c.args.scope.now) c.args.expr.now _ (ap (sense (names_of c.args.scope.now)) c.in-PartSelect.is ∙ step.sense_part_select (names_of c.args.scope.now) c.in-PartSelect.field-0 c.in-PartSelect.field-1 c.in-PartSelect.field-2 c.in-PartSelect.field-3) refl
 
 pub feature_in-returns-in-BitSelect : goal.feature_in-returns-in-BitSelect
-feature_in-returns-in-BitSelect t c = two_features (names_of c.args.scope.now) c.args.expr.now (index_features c.in-BitSelect.span ((names_of c.args.scope.now) c.in-BitSelect.name.name) (sense (names_of c.args.scope.now) c.in-BitSelect.index)) (sense (names_of c.args.scope.now) c.in-BitSelect.index).features _ c.earlier.result c.index_feature.result c.feature_in.result (ap (sense (names_of c.args.scope.now)) c.in-BitSelect.is ∙ step.sense_bit_select (names_of c.args.scope.now) c.in-BitSelect.name c.in-BitSelect.span c.in-BitSelect.index) refl c.earlier.ensures.earlier (rw c.get.ensures at c.index_feature.ensures) (rw c.get-in-BitSelect.ensures at c.feature_in.ensures)
+feature_in-returns-in-BitSelect t c = two_features (names_of c.args.scope.now) c.args.expr.now (index_features c.in-BitSelect.span ((names_of c.args.scope.now) c.in-BitSelect.name.name) (sense (names_of c.args.scope.now) c.in-BitSelect.index)) (sense (names_of c.args.scope.now) c.in-BitSelect.index).features _ c.earlier.result c.index_unsupported.result c.feature_in.result (ap (sense (names_of c.args.scope.now)) c.in-BitSelect.is ∙ step.sense_bit_select (names_of c.args.scope.now) c.in-BitSelect.name c.in-BitSelect.span c.in-BitSelect.index) refl c.earlier.ensures.earlier (rw c.get.ensures at c.index_unsupported.ensures) (rw c.get-in-BitSelect.ensures at c.feature_in.ensures)
 
 pub feature_in-returns-in-IndexedPartSelect : goal.feature_in-returns-in-IndexedPartSelect
-feature_in-returns-in-IndexedPartSelect t c = two_features (names_of c.args.scope.now) c.args.expr.now (index_features c.in-IndexedPartSelect.span ((names_of c.args.scope.now) c.in-IndexedPartSelect.name.name) (sense (names_of c.args.scope.now) c.in-IndexedPartSelect.base)) (sense (names_of c.args.scope.now) c.in-IndexedPartSelect.base).features _ c.earlier-in-IndexedPartSelect.result c.index_feature-in-IndexedPartSelect.result c.feature_in-in-IndexedPartSelect.result (ap (sense (names_of c.args.scope.now)) c.in-IndexedPartSelect.is ∙ step.sense_indexed_part_select (names_of c.args.scope.now) c.in-IndexedPartSelect.name c.in-IndexedPartSelect.span c.in-IndexedPartSelect.base c.in-IndexedPartSelect.field-3) refl c.earlier-in-IndexedPartSelect.ensures.earlier (rw c.get-in-IndexedPartSelect.ensures at c.index_feature-in-IndexedPartSelect.ensures) (rw c.get-in-IndexedPartSelect-2.ensures at c.feature_in-in-IndexedPartSelect.ensures)
+feature_in-returns-in-IndexedPartSelect t c = two_features (names_of c.args.scope.now) c.args.expr.now (index_features c.in-IndexedPartSelect.span ((names_of c.args.scope.now) c.in-IndexedPartSelect.name.name) (sense (names_of c.args.scope.now) c.in-IndexedPartSelect.base)) (sense (names_of c.args.scope.now) c.in-IndexedPartSelect.base).features _ c.earlier-in-IndexedPartSelect.result c.index_unsupported-in-IndexedPartSelect.result c.feature_in-in-IndexedPartSelect.result (ap (sense (names_of c.args.scope.now)) c.in-IndexedPartSelect.is ∙ step.sense_indexed_part_select (names_of c.args.scope.now) c.in-IndexedPartSelect.name c.in-IndexedPartSelect.span c.in-IndexedPartSelect.base c.in-IndexedPartSelect.field-3) refl c.earlier-in-IndexedPartSelect.ensures.earlier (rw c.get-in-IndexedPartSelect.ensures at c.index_unsupported-in-IndexedPartSelect.ensures) (rw c.get-in-IndexedPartSelect-2.ensures at c.feature_in-in-IndexedPartSelect.ensures)
 
 pub feature_in-returns-in-Binary : goal.feature_in-returns-in-Binary
-feature_in-returns-in-Binary t c = two_features (names_of c.args.scope.now) c.args.expr.now (binary_features c.in-Binary.span c.in-Binary.op (sense (names_of c.args.scope.now) c.in-Binary.left) (sense (names_of c.args.scope.now) c.in-Binary.right)) ((sense (names_of c.args.scope.now) c.in-Binary.left).features ++ (sense (names_of c.args.scope.now) c.in-Binary.right).features) _ c.earlier-in-Binary-2.result c.division_feature.result c.earlier-in-Binary.result (ap (sense (names_of c.args.scope.now)) c.in-Binary.is ∙ step.sense_binary (names_of c.args.scope.now) c.in-Binary.span c.in-Binary.op c.in-Binary.left c.in-Binary.right) refl c.earlier-in-Binary-2.ensures.earlier (rw (c.get-in-Binary.ensures, c.get-in-Binary-2.ensures) at c.division_feature.ensures) (pair_first (sense (names_of c.args.scope.now) c.in-Binary.left).features (sense (names_of c.args.scope.now) c.in-Binary.right).features c.feature_in-in-Binary.result c.feature_in-in-Binary-2.result c.earlier-in-Binary.result c.earlier-in-Binary.ensures.earlier (rw c.get-in-Binary-3.ensures at c.feature_in-in-Binary.ensures) (rw c.get-in-Binary-4.ensures at c.feature_in-in-Binary-2.ensures))
+feature_in-returns-in-Binary t c = two_features (names_of c.args.scope.now) c.args.expr.now (binary_features c.in-Binary.span c.in-Binary.op (sense (names_of c.args.scope.now) c.in-Binary.left) (sense (names_of c.args.scope.now) c.in-Binary.right)) ((sense (names_of c.args.scope.now) c.in-Binary.left).features ++ (sense (names_of c.args.scope.now) c.in-Binary.right).features) _ c.earlier-in-Binary-2.result c.division_unsupported.result c.earlier-in-Binary.result (ap (sense (names_of c.args.scope.now)) c.in-Binary.is ∙ step.sense_binary (names_of c.args.scope.now) c.in-Binary.span c.in-Binary.op c.in-Binary.left c.in-Binary.right) refl c.earlier-in-Binary-2.ensures.earlier (rw (c.get-in-Binary.ensures, c.get-in-Binary-2.ensures) at c.division_unsupported.ensures) (pair_first (sense (names_of c.args.scope.now) c.in-Binary.left).features (sense (names_of c.args.scope.now) c.in-Binary.right).features c.feature_in-in-Binary.result c.feature_in-in-Binary-2.result c.earlier-in-Binary.result c.earlier-in-Binary.ensures.earlier (rw c.get-in-Binary-3.ensures at c.feature_in-in-Binary.ensures) (rw c.get-in-Binary-4.ensures at c.feature_in-in-Binary-2.ensures))
 
 pub feature_in-returns-in-Conditional : goal.feature_in-returns-in-Conditional
 feature_in-returns-in-Conditional t c = two_features (names_of c.args.scope.now) c.args.expr.now (sense (names_of c.args.scope.now) c.in-Conditional.condition).features ((sense (names_of c.args.scope.now) c.in-Conditional.yes).features ++ (sense (names_of c.args.scope.now) c.in-Conditional.no).features) _ c.earlier-in-Conditional-2.result c.feature_in-in-Conditional.result c.earlier-in-Conditional.result (ap (sense (names_of c.args.scope.now)) c.in-Conditional.is ∙ step.sense_conditional (names_of c.args.scope.now) c.in-Conditional.field-0 c.in-Conditional.condition c.in-Conditional.yes c.in-Conditional.no) refl c.earlier-in-Conditional-2.ensures.earlier (rw c.get-in-Conditional.ensures at c.feature_in-in-Conditional.ensures) (pair_first (sense (names_of c.args.scope.now) c.in-Conditional.yes).features (sense (names_of c.args.scope.now) c.in-Conditional.no).features c.feature_in-in-Conditional-2.result c.feature_in-in-Conditional-3.result c.earlier-in-Conditional.result c.earlier-in-Conditional.ensures.earlier (rw c.get-in-Conditional-2.ensures at c.feature_in-in-Conditional-2.ensures) (rw c.get-in-Conditional-3.ensures at c.feature_in-in-Conditional-3.ensures))

@@ -1,7 +1,4 @@
-use Rattle.std.proofs.Common.{◌≡◌, take}
-use Rattle.vlog_meaning.specs.Scopes.{names_of}
-use Rattle.vlog_meaning.specs.Senses.{senses, all_features}
-use Rattle.vlog_meaning.specs.Answers.{least}
+use Rattle.tb_checks.proofs.Common.{◌≡◌, take, names_of, senses, all_features, least}
 use Rattle.tb_checks.proofs.features.+feature.Given as goal
 
 abbrev pub invariant-feature_in_all-loop-expr : goal.invariant-feature_in_all-loop-expr

@@ -1,14 +1,7 @@
-use Rattle.std.proofs.Common.{List, map, take, add-one, arith, ◌∙◌, ap, sym}
-use Rattle.std.specs.List.{flat_map}
+use Rattle.tb_checks.proofs.Common.{List, map, take, add-one, arith, ◌∙◌, ap, sym, flat_map, Fault, least, names_of, least_empty, Part, parts_of, concatenated, part_indices}
 use Rattle.std.proofs.lemmas.Grind.{flat_map-append}
-use Rattle.vlog_meaning.specs.declared.fault.Fault.{Fault}
-use Rattle.vlog_meaning.specs.Answers.{least}
-use Rattle.vlog_meaning.specs.Scopes.{names_of}
-use Rattle.vlog_meaning.proofs.Refusals.{least_empty}
-use Rattle.vlog_effects.specs.LeftSides.{Part, parts_of, concatenated}
 use Rattle.vlog_effects.proofs.Folds.{parts-name, parts-range}
 use Rattle.elab_proc.proofs.Lists.{parts_take}
-use Rattle.tb_checks.specs.Nets.{part_indices}
 use Rattle.tb_checks.proofs.indices.+indices.Goals as goal
 
 pub all_indices_fault-loop-part-init : goal.all_indices_fault-loop-part-init

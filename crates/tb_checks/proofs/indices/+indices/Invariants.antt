@@ -1,9 +1,4 @@
-use Rattle.std.proofs.Common.{◌≡◌, map, take}
-use Rattle.std.specs.List.{flat_map}
-use Rattle.vlog_meaning.specs.Answers.{least}
-use Rattle.vlog_meaning.specs.Scopes.{names_of}
-use Rattle.vlog_effects.specs.LeftSides.{parts_of, concatenated}
-use Rattle.tb_checks.specs.Nets.{part_indices}
+use Rattle.tb_checks.proofs.Common.{◌≡◌, map, take, flat_map, least, names_of, parts_of, concatenated, part_indices}
 use Rattle.tb_checks.proofs.indices.+indices.Given as goal
 
 abbrev pub invariant-all_indices_fault-loop-part : goal.invariant-all_indices_fault-loop-part

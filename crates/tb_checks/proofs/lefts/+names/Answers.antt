@@ -1,13 +1,6 @@
-use Rattle.std.proofs.Common.{List, map, take, add-one, arith, subst, ◌∙◌, ap, sym}
-use Rattle.std.specs.List.{flat_map}
-use Rattle.std.specs.Prelude.{option_copied}
+use Rattle.tb_checks.proofs.Common.{List, map, take, add-one, arith, subst, ◌∙◌, ap, sym, flat_map, option_copied, names_of, Part, parts_of, concatenated, BenchFault, IsFirst, part_faults}
 use Rattle.std.proofs.lemmas.Grind.{flat_map-append}
-use Rattle.vlog_meaning.specs.Scopes.{names_of}
-use Rattle.vlog_effects.specs.LeftSides.{Part, parts_of, concatenated}
 use Rattle.elab_proc.proofs.Lists.{parts_take}
-use Rattle.tb_faults.specs.declared.fault.BenchFault.{BenchFault}
-use Rattle.tb_faults.specs.Order.{IsFirst}
-use Rattle.tb_checks.specs.Lefts.{part_faults}
 use Rattle.tb_checks.proofs.lefts.+names.Goals as goal
 
 pub all_names_fault-loop-part-preserved : goal.all_names_fault-loop-part-preserved

@@ -1,11 +1,5 @@
-use Rattle.std.proofs.Common.{map, ◌++◌, None}
-use Rattle.std.specs.List.{flat_map}
-use Rattle.vlog_syntax.specs.declared.expr.Expr.{Expr}
-use Rattle.vlog_meaning.specs.Scopes.{names_of}
-use Rattle.vlog_effects.specs.LeftSides.{parts_of}
-use Rattle.tb_faults.specs.declared.fault.BenchFault.TheVariants.{Wrong}
-use Rattle.tb_checks.specs.Lefts.{part_faults}
-use Rattle.tb_checks.specs.Nets.{net_faults}
+use Rattle.tb_checks.proofs.Common.{map, ◌++◌, flat_map, Expr, names_of, parts_of, Wrong, part_faults, net_faults}
+use Rattle.std.proofs.Common.{None}
 use Rattle.tb_checks.proofs.Firsts.{moved}
 use Rattle.tb_checks.proofs.nets.assign_fault.Goals as goal
 

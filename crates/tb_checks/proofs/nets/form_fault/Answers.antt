@@ -1,11 +1,4 @@
-use Rattle.std.proofs.Common.{◌∙◌, ap}
-use Rattle.vlog_meaning.specs.declared.shapes.Shape.{Shape}
-use Rattle.vlog_meaning.specs.Answers.{least}
-use Rattle.vlog_meaning.specs.Scopes.{names_of}
-use Rattle.vlog_meaning.specs.Senses.{sense, own_zeros}
-use Rattle.vlog_meaning.proofs.Refusals.{kept, passed}
-use Rattle.elab_proc.specs.Refusals.{divisions}
-use Rattle.tb_checks.specs.Nets.{net_wrong}
+use Rattle.tb_checks.proofs.Common.{◌∙◌, ap, Shape, least, names_of, sense, own_zeros, kept, passed, divisions, net_wrong}
 use Rattle.tb_checks.proofs.Whole.{net_is_whole}
 use Rattle.tb_checks.proofs.nets.form_fault.Goals as goal
 

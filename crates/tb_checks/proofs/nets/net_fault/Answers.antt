@@ -1,15 +1,6 @@
-use Rattle.std.proofs.Common.{List, ◌∙◌, ◌++◌, sym, ap}
-use Rattle.vlog_meaning.specs.declared.fault.Fault.{Fault}
-use Rattle.vlog_meaning.specs.declared.shapes.Shape.{Shape}
-use Rattle.vlog_meaning.specs.Answers.{least}
-use Rattle.vlog_meaning.specs.Scopes.{Names, names_of}
-use Rattle.vlog_meaning.specs.Senses.{sense, assigned}
-use Rattle.vlog_meaning.proofs.Blanks.{left_nil, right_nil}
-use Rattle.vlog_meaning.proofs.Firsts.{least_none}
-use Rattle.vlog_meaning.proofs.Refusals.{kept, passed}
-use Rattle.elab_proc.specs.Refusals.{divisions}
-use Rattle.elab_proc.proofs.SideLemmas.{context_is}
-use Rattle.tb_checks.specs.Nets.{net_wrong, indices_faults}
+use Rattle.tb_checks.proofs.Common.{List, ◌∙◌, ◌++◌, sym, ap, Fault, Shape, least, Names, names_of, sense, assigned, left_nil, right_nil, least_none, kept, passed, divisions, net_wrong}
+use Rattle.tb_checks.proofs.Common.{indices_faults}
+use Rattle.vlog_refusals.proofs.SideLemmas.{context_is}
 use Rattle.tb_checks.proofs.Whole.{net_whole}
 use Rattle.tb_checks.proofs.nets.net_fault.Goals as goal
 

@@ -1,8 +1,4 @@
-use Rattle.std.proofs.Common.{[], ◌∷◌}
-use Rattle.vlog_syntax.specs.declared.feature.Feature.TheVariants.{ClockList}
-use Rattle.tb_faults.specs.declared.fault.BenchFault.TheVariants.{Unsupported}
-use Rattle.tb_faults.proofs.Firsts.{first_alone}
-use Rattle.tb_checks.specs.Views.{rules_in}
+use Rattle.tb_checks.proofs.Common.{[], ◌∷◌, ClockList, Unsupported, first_alone, rules_in}
 use Rattle.tb_checks.proofs.Starts.{always_waits, always_other}
 use Rattle.tb_checks.proofs.processes.always_fault.Goals as goal
 

@@ -1,11 +1,7 @@
-use Rattle.std.proofs.Common.{◌++◌, sym, ap, ◌∙◌, take, map, add-one, arith}
+use Rattle.tb_checks.proofs.Common.{◌++◌, sym, ap, ◌∙◌, take, map, add-one, arith, SystemFunction, least_at, least_nil, pair_of, randoms, all_randoms, call_random}
 use Rattle.vlog_syntax.specs.declared.expr.Expr.TheOpen as e
 use Rattle.vlog_syntax.specs.declared.expr.Expr.TheVariants as v
-use Rattle.vlog_meaning.specs.declared.fault.Cause.TheVariants.{SystemFunction}
-use Rattle.vlog_meaning.specs.Answers.{least_at}
 use Rattle.vlog_meaning.specs.Functions.{function_of}
-use Rattle.vlog_meaning.proofs.Firsts.{least_nil, pair_of}
-use Rattle.tb_checks.specs.Nets.{randoms, all_randoms, call_random}
 use Rattle.tb_checks.proofs.Random.{random_parts, randoms_take}
 use Rattle.tb_checks.proofs.randoms.+random.Goals as goal
 

@@ -1,5 +1,4 @@
-use Rattle.std.proofs.Common.{add-one, arith, sym, ◌∙◌}
-use Rattle.tb_checks.specs.Views.{rules_in}
+use Rattle.tb_checks.proofs.Common.{add-one, arith, sym, ◌∙◌, rules_in}
 use Rattle.tb_checks.proofs.Begun.{block_sets, other_sets, sets_here, waits_here, neither_here}
 use Rattle.tb_checks.proofs.start.+sets.Goals as goal
 

@@ -1,6 +1,4 @@
-use Rattle.std.proofs.Common.{◌≡◌, map, drop}
-use Rattle.tb_checks.specs.Starts.{some_sets, begun}
-use Rattle.tb_checks.specs.Views.{rules_in}
+use Rattle.tb_checks.proofs.Common.{◌≡◌, map, drop, some_sets, begun, rules_in}
 use Rattle.tb_checks.proofs.start.+sets.Given as goal
 
 abbrev pub invariant-one_sets_clock-loop-stmt : goal.invariant-one_sets_clock-loop-stmt

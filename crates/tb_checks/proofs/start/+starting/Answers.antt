@@ -1,8 +1,4 @@
-use Rattle.std.proofs.Common.{Bool, add-one, arith, sym, subst}
-use Rattle.std.proofs.lemmas.Result.{IfOk-weaker}
-use Rattle.tb_faults.specs.Order.{IsFirst}
-use Rattle.tb_checks.specs.Starts.{first_faults, turn_faults, begun, starting}
-use Rattle.tb_checks.specs.Views.{rules_in}
+use Rattle.tb_checks.proofs.Common.{Bool, add-one, arith, sym, subst, IfOk-weaker, IsFirst, first_faults, turn_faults, begun, starting, rules_in}
 use Rattle.tb_checks.proofs.Firsts.{same}
 use Rattle.tb_checks.proofs.Begun.{block_starts, other_starts, turn_else, block_more, may_next}
 use Rattle.tb_checks.proofs.start.+starting.Goals as goal

@@ -1,7 +1,4 @@
-use Rattle.std.proofs.Common.{◌≡◌, true, map, take}
-use Rattle.tb_faults.specs.Order.{IsFirst}
-use Rattle.tb_checks.specs.Starts.{block_faults, begun}
-use Rattle.tb_checks.specs.Views.{rules_in}
+use Rattle.tb_checks.proofs.Common.{◌≡◌, true, map, take, IsFirst, block_faults, begun, rules_in}
 use Rattle.tb_checks.proofs.Begun.{still_may}
 use Rattle.tb_checks.proofs.start.+starting.Given as goal
 

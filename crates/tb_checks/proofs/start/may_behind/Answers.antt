@@ -1,5 +1,4 @@
-use Rattle.std.proofs.Common.{◌∙◌}
-use Rattle.tb_checks.specs.Views.{rules_in}
+use Rattle.tb_checks.proofs.Common.{◌∙◌, rules_in}
 use Rattle.tb_checks.proofs.Begun.{behind_is}
 use Rattle.tb_checks.proofs.start.may_behind.Goals as goal
 

@@ -1,6 +1,4 @@
-use Rattle.std.proofs.lemmas.Result.{IfOk-weaker}
-use Rattle.tb_checks.specs.Statements.{stmt_faults}
-use Rattle.tb_checks.specs.Views.{rules_in}
+use Rattle.tb_checks.proofs.Common.{IfOk-weaker, stmt_faults, rules_in}
 use Rattle.tb_checks.proofs.Starts.{set_start}
 use Rattle.tb_checks.proofs.start.set_fault.Goals as goal
 

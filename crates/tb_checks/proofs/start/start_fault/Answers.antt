@@ -1,4 +1,4 @@
-use Rattle.tb_checks.specs.Views.{rules_in}
+use Rattle.tb_checks.proofs.Common.{rules_in}
 use Rattle.tb_checks.proofs.Starts.{start_wrong, start_right, start_sized}
 use Rattle.tb_checks.proofs.start.start_fault.Goals as goal
 

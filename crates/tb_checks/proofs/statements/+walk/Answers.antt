@@ -1,15 +1,8 @@
-use Rattle.std.proofs.Common.{[], ◌∷◌, refl, ap, add-one, arith}
-use Rattle.std.proofs.lemmas.Result.{IfOk-weaker}
-use Rattle.std.specs.Prelude.{None}
-use Rattle.vlog_syntax.specs.declared.stmt.CaseItem.{CaseItem}
-use Rattle.vlog_syntax.specs.declared.feature.Feature.TheVariants.{Delay}
-use Rattle.tb_faults.specs.declared.fault.BenchFault.TheVariants.{Unsupported}
-use Rattle.tb_faults.proofs.Firsts.{first_alone}
-use Rattle.tb_checks.specs.Statements.{ItemFaults, stmt_faults, item_faults}
-use Rattle.tb_checks.specs.Views.{rules_in}
+use Rattle.tb_checks.proofs.Common.{[], ◌∷◌, refl, ap, add-one, arith, IfOk-weaker, None, CaseItem, Delay, Unsupported, first_alone, ItemFaults, stmt_faults, item_faults, rules_in}
 use Rattle.tb_checks.proofs.Firsts.{same, moved, more}
 use Rattle.tb_checks.proofs.Layers.{item_is}
-use Rattle.tb_checks.proofs.Arms.{null_first, block_first, choice_first, only_first, case_first, loop_first, while_first, repeat_first, forever_first, waiting_first, delayed_first, task_first, blocking_first, nonblocking_first}
+use Rattle.tb_checks.proofs.Arms.{null_first, block_first, choice_first, only_first, case_first, loop_first, while_first, repeat_first, forever_first, waiting_first, delayed_first, task_first}
+use Rattle.tb_checks.proofs.Arms.{blocking_first, nonblocking_first}
 use Rattle.tb_checks.proofs.statements.+walk.Goals as goal
 
 pub statement_fault-returns-in-Null : goal.statement_fault-returns-in-Null

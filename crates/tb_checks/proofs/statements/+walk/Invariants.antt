@@ -1,9 +1,4 @@
-use Rattle.std.proofs.Common.{◌+◌, ◌*◌, take}
-use Rattle.std.specs.List.{flat_map}
-use Rattle.vlog_syntax.specs.declared.stmt.CaseItem.{CaseItem}
-use Rattle.tb_faults.specs.Order.{IsFirst}
-use Rattle.tb_checks.specs.Statements.{stmt_faults, item_faults}
-use Rattle.tb_checks.specs.Views.{rules_in}
+use Rattle.tb_checks.proofs.Common.{◌+◌, ◌*◌, take, flat_map, CaseItem, IsFirst, stmt_faults, item_faults, rules_in}
 use Rattle.tb_checks.proofs.statements.+walk.Given as goal
 
 abbrev pub decreases-statement_fault : goal.decreases-statement_fault

@@ -1,12 +1,4 @@
-use Rattle.std.proofs.Common.{List, map, ◌++◌}
-use Rattle.std.specs.List.{flat_map}
-use Rattle.vlog_syntax.specs.declared.expr.Expr.{Expr}
-use Rattle.vlog_effects.specs.LeftSides.{parts_of}
-use Rattle.tb_faults.specs.declared.fault.BenchFault.{BenchFault}
-use Rattle.tb_faults.specs.declared.fault.BenchFault.TheVariants.{Wrong}
-use Rattle.tb_checks.specs.Expressions.{sides_faults}
-use Rattle.tb_checks.specs.Lefts.{part_faults}
-use Rattle.tb_checks.specs.Views.{rules_in}
+use Rattle.tb_checks.proofs.Common.{List, map, ◌++◌, flat_map, Expr, parts_of, BenchFault, Wrong, sides_faults, part_faults, rules_in}
 use Rattle.tb_checks.proofs.Firsts.{moved}
 use Rattle.tb_checks.proofs.statements.assignment_fault.Goals as goal
 

@@ -1,5 +1,4 @@
-use Rattle.std.proofs.Common.{Bool}
-use Rattle.tb_checks.specs.Statements.{format_faults}
+use Rattle.tb_checks.proofs.Common.{Bool, format_faults}
 use Rattle.tb_checks.proofs.Firsts.{moved}
 use Rattle.tb_checks.proofs.tasks.print_fault.Goals as goal
 

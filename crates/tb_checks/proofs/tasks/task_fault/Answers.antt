@@ -1,6 +1,4 @@
-use Rattle.std.proofs.Common.{◌≡◌, false, rules}
-use Rattle.vlog_meaning.specs.Scopes.{names_of}
-use Rattle.tb_checks.specs.Statements.{is_print, is_dump}
+use Rattle.tb_checks.proofs.Common.{◌≡◌, false, rules, names_of, is_print, is_dump}
 use Rattle.tb_checks.proofs.Tasked.{other_first}
 use Rattle.tb_checks.proofs.tasks.task_fault.Goals as goal
 

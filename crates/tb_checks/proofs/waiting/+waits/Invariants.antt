@@ -1,5 +1,4 @@
-use Rattle.std.proofs.Common.{◌≡◌, map, drop}
-use Rattle.tb_checks.specs.Starts.{any_of, waits, item_waits}
+use Rattle.tb_checks.proofs.Common.{◌≡◌, map, drop, any_of, waits, item_waits}
 use Rattle.tb_checks.proofs.waiting.+waits.Given as goal
 
 abbrev pub invariant-one_waits-loop-stmt : goal.invariant-one_waits-loop-stmt

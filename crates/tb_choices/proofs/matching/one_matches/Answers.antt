@@ -1,7 +1,4 @@
-use Rattle.std.proofs.Common.{ℕ, ap, ◌∙◌, arith}
-use Rattle.vlog_meaning.specs.Scopes.{names_of, store_of}
-use Rattle.elab_proc.proofs.CaseLemmas.{within_at}
-use Rattle.tb_choices.specs.Choices.{Matching, agrees}
+use Rattle.tb_choices.proofs.Common.{ℕ, ap, ◌∙◌, arith, names_of, store_of, within_at, Matching, agrees}
 use Rattle.tb_choices.proofs.Matches.{label_hit, label_miss, labels_end}
 use Rattle.tb_choices.proofs.matching.one_matches.Goals as goal
 

@@ -1,6 +1,4 @@
-use Rattle.std.proofs.Common.{◌≡◌, drop}
-use Rattle.vlog_meaning.specs.Scopes.{names_of, store_of}
-use Rattle.tb_choices.specs.Choices.{Matching, one_matches}
+use Rattle.tb_choices.proofs.Common.{◌≡◌, drop, names_of, store_of, Matching, one_matches}
 use Rattle.tb_choices.proofs.matching.one_matches.Given as goal
 
 abbrev pub invariant-loop-label : goal.invariant-loop-label

@@ -1,11 +1,4 @@
-use Rattle.std.proofs.Common.{List, ◌∷◌, map, sym, ap, ◌∙◌, Option, ℕ}
-use Rattle.std.specs.List.{flat_map}
-use Rattle.vlog_syntax.specs.declared.expr.Expr.{Expr}
-use Rattle.vlog_meaning.specs.Scopes.{names_of, store_of}
-use Rattle.elab_proc.specs.Refusals.{common_size}
-use Rattle.elab_proc.proofs.CaseLemmas.{common_within}
-use Rattle.tb_machine.specs.Nodes.{choice_labels}
-use Rattle.tb_choices.specs.Choices.{default_item, or_default}
+use Rattle.tb_choices.proofs.Common.{List, ◌∷◌, map, sym, ap, ◌∙◌, Option, ℕ, flat_map, Expr, names_of, store_of, common_size, common_within, choice_labels, default_item, or_default}
 use Rattle.tb_choices.proofs.Labels.{flat_of_map}
 use Rattle.tb_choices.proofs.Matches.{chosen_is}
 use Rattle.tb_choices.proofs.selection.choose.Goals as goal

@@ -1,6 +1,4 @@
-use Rattle.std.proofs.Common.{◌≡◌, drop, map}
-use Rattle.tb_machine.specs.Nodes.{choice_labels}
-use Rattle.tb_choices.specs.Choices.{default_item}
+use Rattle.tb_choices.proofs.Common.{◌≡◌, drop, map, choice_labels, default_item}
 use Rattle.tb_choices.proofs.selection.default_item.Given as goal
 
 abbrev pub invariant-loop-number : goal.invariant-loop-number

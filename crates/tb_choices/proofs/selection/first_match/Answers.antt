@@ -1,6 +1,4 @@
-use Rattle.std.proofs.Common.{arith}
-use Rattle.vlog_meaning.specs.Scopes.{names_of, store_of}
-use Rattle.tb_choices.specs.Choices.{Matching}
+use Rattle.tb_choices.proofs.Common.{arith, names_of, store_of, Matching}
 use Rattle.tb_choices.proofs.Labels.{labels_whole_at, labels_within_at}
 use Rattle.tb_choices.proofs.Matches.{item_hit, item_miss, items_end}
 use Rattle.tb_choices.proofs.selection.first_match.Goals as goal

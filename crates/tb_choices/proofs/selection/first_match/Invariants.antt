@@ -1,7 +1,4 @@
-use Rattle.std.proofs.Common.{◌≡◌, drop, map}
-use Rattle.vlog_meaning.specs.Scopes.{names_of, store_of}
-use Rattle.tb_machine.specs.Nodes.{choice_labels}
-use Rattle.tb_choices.specs.Choices.{Matching, first_match}
+use Rattle.tb_choices.proofs.Common.{◌≡◌, drop, map, names_of, store_of, choice_labels, Matching, first_match}
 use Rattle.tb_choices.proofs.selection.first_match.Given as goal
 
 abbrev pub invariant-loop-number : goal.invariant-loop-number

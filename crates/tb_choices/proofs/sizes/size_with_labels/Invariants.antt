@@ -1,9 +1,5 @@
-use Rattle.std.proofs.Common.{◌≡◌, take}
-use Rattle.std.specs.List.{flat_map}
+use Rattle.tb_choices.proofs.Common.{◌≡◌, take, flat_map, names_of, widened, choice_labels}
 use Rattle.vlog_meaning.specs.Operators.{IsSized}
-use Rattle.vlog_meaning.specs.Scopes.{names_of}
-use Rattle.elab_proc.specs.Sizes.{widened}
-use Rattle.tb_machine.specs.Nodes.{choice_labels}
 use Rattle.tb_choices.proofs.sizes.size_with_labels.Given as goal
 
 abbrev pub invariant-loop-item : goal.invariant-loop-item

@@ -1,4 +1,4 @@
-use Rattle.std.proofs.Common.{◌≡◌, take}
+use Rattle.tb_code.proofs.Common.{◌≡◌, take}
 use Rattle.tb_code.proofs.copies.copy_arguments.Given as goal
 
 abbrev pub invariant-loop-argument : goal.invariant-loop-argument

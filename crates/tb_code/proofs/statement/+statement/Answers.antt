@@ -1,9 +1,5 @@
-use Rattle.std.proofs.Common.{◌≡◌, arith, refl, ap, ◌∙◌, ◌∷◌, [], map}
-use Rattle.std.proofs.lemmas.List.{map-append}
+use Rattle.tb_code.proofs.Common.{◌≡◌, arith, refl, ap, ◌∙◌, ◌∷◌, [], map, map-append, choice_labels, labels_of, part_of, part_number}
 use Rattle.std.proofs.lemmas.Result.{IfOk-weaker}
-use Rattle.tb_machine.specs.Nodes.{choice_labels}
-use Rattle.tb_machine.specs.Steps.{labels_of}
-use Rattle.tb_code.specs.Codes.{part_of, part_number}
 use Rattle.tb_code.proofs.Adding.{adds_nothing, adds_next, adds_part, along}
 use Rattle.tb_code.proofs.Arms.{add_null, add_block, add_if, add_if_else, add_case, add_for, add_while, add_repeat, add_forever, add_event, add_delay, add_task, add_blocking, add_nonblocking}
 use Rattle.tb_code.proofs.statement.+statement.Goals as goal

@@ -1,7 +1,4 @@
-use Rattle.std.proofs.Common.{◌≡◌, map, take}
-use Rattle.tb_machine.specs.Nodes.{choice_labels}
-use Rattle.tb_machine.specs.Steps.{labels_of}
-use Rattle.tb_code.specs.Codes.{Adds, part_of, part_number}
+use Rattle.tb_code.proofs.Common.{◌≡◌, map, take, choice_labels, labels_of, Adds, part_of, part_number}
 use Rattle.tb_code.proofs.statement.+statement.Given as goal
 
 abbrev pub invariant-add_all-loop-statement : goal.invariant-add_all-loop-statement

@@ -1,5 +1,4 @@
-use Rattle.std.proofs.Common.{ap, ◌∙◌}
-use Rattle.vlog_meaning.specs.Scopes.{Store}
+use Rattle.tb_evaluator.proofs.Common.{ap, ◌∙◌, Store}
 use Rattle.tb_plans.specs.Selections.{selection_taken}
 use Rattle.tb_evaluator.proofs.Served.{same_store}
 use Rattle.tb_evaluator.proofs.planned.choice_planned.Goals as goal

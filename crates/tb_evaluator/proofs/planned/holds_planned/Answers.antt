@@ -1,6 +1,4 @@
-use Rattle.std.proofs.Common.{ℕ, not, ◌==◌, ap, ◌∙◌}
-use Rattle.vlog_meaning.specs.Scopes.{Store}
-use Rattle.tb_formulas.specs.Formulas.{formula_value}
+use Rattle.tb_evaluator.proofs.Common.{ℕ, not, ◌==◌, ap, ◌∙◌, Store, formula_value}
 use Rattle.tb_evaluator.proofs.Served.{same_store}
 use Rattle.tb_evaluator.proofs.planned.holds_planned.Goals as goal
 

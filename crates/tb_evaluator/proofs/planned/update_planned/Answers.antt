@@ -1,4 +1,4 @@
-use Rattle.vlog_meaning.specs.Scopes.{store_of}
+use Rattle.tb_evaluator.proofs.Common.{store_of}
 use Rattle.tb_evaluator.proofs.Served.{same_store}
 use Rattle.tb_evaluator.proofs.Planning.{transferred, drawn}
 use Rattle.tb_evaluator.proofs.planned.update_planned.Goals as goal

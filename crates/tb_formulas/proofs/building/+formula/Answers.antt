@@ -1,18 +1,13 @@
-use Rattle.std.proofs.Common.{rules, ap, sym, ◌∙◌, arith, add-one, subst}
+use Rattle.tb_formulas.proofs.Common.{rules, ap, sym, ◌∙◌, arith, add-one, subst, Expr, function_of, natural, bound_integer, names_of, Sense, sense, constant_integer, IsContext, own_context, left_at}
+use Rattle.tb_formulas.proofs.Common.{right_at, yes_at, no_at, whole_name, whole_index, whole_part, whole_indexed, whole_inner, whole_operand, whole_pair, whole_choice, whole_join, whole_times}
+use Rattle.tb_formulas.proofs.Common.{whole_call, element_whole, Makes}
 use Rattle.std.proofs.lemmas.Result.{IfOk-weaker}
-use Rattle.vlog_syntax.specs.declared.expr.Expr.{Expr}
 use Rattle.vlog_syntax.specs.declared.expr.Expr.TheViews.{the_lemmas}
-use Rattle.vlog_meaning.specs.Functions.{function_of}
-use Rattle.vlog_meaning.specs.Integers.{natural, bound_integer}
-use Rattle.vlog_meaning.specs.Scopes.{names_of}
-use Rattle.vlog_meaning.specs.Senses.{Sense, sense, constant_integer, IsContext}
-use Rattle.vlog_meaning.proofs.Contexts.{own_context}
 use Rattle.vlog_meaning.proofs.Divisions.{operand_at}
-use Rattle.vlog_meaning.proofs.Results.{left_at, right_at, yes_at, no_at}
-use Rattle.vlog_meaning.proofs.Whole.{whole_name, whole_index, whole_part, whole_indexed, whole_inner, whole_operand, whole_pair, whole_choice, whole_join, whole_times, whole_call, element_whole}
 use Rattle.vlog_meaning.proofs.Steps as s
-use Rattle.tb_formulas.specs.Made.{Makes}
-use Rattle.tb_formulas.proofs.Making.{ok_both, made_number, own_made, number_wide, number_made, name_context, name_made, bit_made, indexed_made, part_sizes, part_made, picked, aimed, unary_made, binary_made, choice_made, goes_first, goes_on, goes_all, repeated_made, join_made, times_made, several_made, unknown_made, one_whole, one_context, one_made, signed_whole, unsigned_whole, clog2_whole, signed_made, unsigned_made, clog2_made, random_made, time_made, call_made, inner_made}
+use Rattle.tb_formulas.proofs.Making.{ok_both, made_number, own_made, number_wide, number_made, name_context, name_made, bit_made, indexed_made, part_sizes, part_made, picked, aimed, unary_made}
+use Rattle.tb_formulas.proofs.Making.{binary_made, choice_made, goes_first, goes_on, goes_all, repeated_made, join_made, times_made, several_made, unknown_made, one_whole, one_context, one_made}
+use Rattle.tb_formulas.proofs.Making.{signed_whole, unsigned_whole, clog2_whole, signed_made, unsigned_made, clog2_made, random_made, time_made, call_made, inner_made}
 use Rattle.tb_formulas.proofs.building.+formula.Goals as goal
 
 pub boxed-formula_at-requires : goal.boxed-formula_at-requires

@@ -1,5 +1,4 @@
-use Rattle.std.proofs.Common.{◌+◌, ◌*◌}
-use Rattle.vlog_meaning.specs.Scopes.{names_of}
+use Rattle.tb_formulas.proofs.Common.{◌+◌, ◌*◌, names_of}
 use Rattle.tb_formulas.proofs.Making.{Goes}
 use Rattle.tb_formulas.proofs.building.+formula.Given as goal
 

@@ -1,5 +1,4 @@
-use Rattle.std.proofs.Common.{[], sym, ◌∙◌}
-use Rattle.vlog_meaning.specs.Scopes.{names_of, store_of}
+use Rattle.tb_formulas.proofs.Common.{[], sym, ◌∙◌, names_of, store_of}
 use Rattle.expr_plans.proofs.Plans.{constant_value}
 use Rattle.tb_formulas.proofs.building.constant.Goals as goal
 

@@ -1,4 +1,4 @@
-use Rattle.std.proofs.Common.{arith}
+use Rattle.tb_formulas.proofs.Common.{arith}
 use Rattle.tb_formulas.proofs.Widening.{widens}
 use Rattle.tb_formulas.proofs.Making.{joined_fits_in}
 use Rattle.tb_formulas.proofs.building.join.Goals as goal

@@ -1,6 +1,4 @@
-use Rattle.std.proofs.Common.{arith}
-use Rattle.vlog_meaning.specs.Scopes.{names_of}
-use Rattle.vlog_meaning.proofs.Whole.{element_whole}
+use Rattle.tb_formulas.proofs.Common.{arith, names_of, element_whole}
 use Rattle.tb_formulas.proofs.building.total_width.Goals as goal
 
 pub shape_of-total-requires-in-loop-part : goal.shape_of-total-requires-in-loop-part

@@ -1,6 +1,4 @@
-use Rattle.std.proofs.Common.{◌≡◌, ◌+◌, drop}
-use Rattle.vlog_meaning.specs.Scopes.{names_of}
-use Rattle.vlog_meaning.specs.Senses.{senses, total_width}
+use Rattle.tb_formulas.proofs.Common.{◌≡◌, ◌+◌, drop, names_of, senses, total_width}
 use Rattle.tb_formulas.proofs.building.total_width.Given as goal
 
 abbrev pub invariant-loop-part : goal.invariant-loop-part

@@ -1,4 +1,4 @@
-use Rattle.std.proofs.Common.{◌∙◌}
+use Rattle.tb_formulas.proofs.Common.{◌∙◌}
 use Rattle.tb_formulas.proofs.Values.{held_bits, held_width}
 use Rattle.tb_formulas.proofs.formula.bits_of.Goals as goal
 

@@ -1,4 +1,4 @@
-use Rattle.std.proofs.Common.{arith}
+use Rattle.tb_formulas.proofs.Common.{arith}
 use Rattle.tb_formulas.proofs.Values.{window_within}
 use Rattle.tb_formulas.proofs.Bits.{number_fits}
 use Rattle.tb_formulas.proofs.parts.fixed.Goals as goal

@@ -1,4 +1,4 @@
-use Rattle.std.proofs.Common.{arith}
+use Rattle.tb_formulas.proofs.Common.{arith}
 use Rattle.tb_formulas.proofs.Bits.{select_fits, some_number}
 use Rattle.tb_formulas.proofs.parts.part_at.Goals as goal
 

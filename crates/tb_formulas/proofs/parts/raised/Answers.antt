@@ -1,5 +1,4 @@
-use Rattle.std.proofs.Common.{arith, refl, sym, ◌∙◌}
-use Rattle.std.proofs.lemmas.Nat.{pow_pos}
+use Rattle.tb_formulas.proofs.Common.{arith, refl, sym, ◌∙◌, pow_pos}
 use Rattle.tb_formulas.specs.declared.formula.Formula.TheVariants as v
 use Rattle.tb_formulas.proofs.Values.{says_number}
 use Rattle.tb_formulas.proofs.Bits.{number_fits, below_all}

@@ -1,4 +1,4 @@
-use Rattle.std.proofs.Common.{arith}
+use Rattle.tb_formulas.proofs.Common.{arith}
 use Rattle.tb_formulas.proofs.Bits.{slice_fits}
 use Rattle.tb_formulas.proofs.parts.signal_part.Goals as goal
 

@@ -1,6 +1,4 @@
-use Rattle.std.proofs.Common.{◌≡◌, drop}
-use Rattle.vlog_meaning.specs.Scopes.{names_of}
-use Rattle.tb_items.specs.Items.{clock_of}
+use Rattle.tb_items.proofs.Common.{◌≡◌, drop, names_of, clock_of}
 use Rattle.tb_items.proofs.clock.clock_of.Given as goal
 
 abbrev pub invariant-loop-step : goal.invariant-loop-step

@@ -1,6 +1,4 @@
-use Rattle.std.proofs.Common.{◌≡◌, ◌++◌, drop}
-use Rattle.std.specs.List.{flat_map}
-use Rattle.tb_items.specs.Connections.{wire_items}
+use Rattle.tb_items.proofs.Common.{◌≡◌, ◌++◌, drop, flat_map, wire_items}
 use Rattle.tb_items.proofs.connection.add_wires.Given as goal
 
 abbrev pub invariant-loop-wire : goal.invariant-loop-wire

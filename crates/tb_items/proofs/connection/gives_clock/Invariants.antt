@@ -1,5 +1,4 @@
-use Rattle.std.proofs.Common.{◌≡◌, drop}
-use Rattle.tb_items.specs.Connections.{gives_clock}
+use Rattle.tb_items.proofs.Common.{◌≡◌, drop, gives_clock}
 use Rattle.tb_items.proofs.connection.gives_clock.Given as goal
 
 abbrev pub invariant-loop-wire : goal.invariant-loop-wire

@@ -1,5 +1,4 @@
-use Rattle.std.proofs.Common.{◌≡◌, drop}
-use Rattle.tb_items.specs.Items.{held_instance}
+use Rattle.tb_items.proofs.Common.{◌≡◌, drop, held_instance}
 use Rattle.tb_items.proofs.held.held_instance.Given as goal
 
 abbrev pub invariant-loop-step : goal.invariant-loop-step

@@ -1,6 +1,4 @@
-use Rattle.std.proofs.Common.{add-one, arith, sym, ap, ◌∙◌, List}
-use Rattle.std.specs.Prelude.{Some}
-use Rattle.vlog_syntax.specs.declared.left_side.LeftSide.{LeftSide}
+use Rattle.tb_items.proofs.Common.{add-one, arith, sym, ap, ◌∙◌, List, Some, LeftSide}
 use Rattle.tb_items.proofs.Forms.{lefts_more, lefts_none}
 use Rattle.tb_items.proofs.left.+left.Goals as goal
 

@@ -1,5 +1,4 @@
-use Rattle.std.proofs.Common.{◌≡◌, map, take}
-use Rattle.std.specs.Prelude.{Some}
+use Rattle.tb_items.proofs.Common.{◌≡◌, map, take, Some}
 use Rattle.tb_items.specs.Lefts.{all_lefts, left_of}
 use Rattle.tb_items.proofs.left.+left.Given as goal
 

@@ -1,5 +1,4 @@
-use Rattle.std.proofs.Common.{◌≡◌, drop}
-use Rattle.tb_items.specs.Items.{first_region}
+use Rattle.tb_items.proofs.Common.{◌≡◌, drop, first_region}
 use Rattle.tb_items.proofs.region.first_region.Given as goal
 
 abbrev pub invariant-loop-item : goal.invariant-loop-item

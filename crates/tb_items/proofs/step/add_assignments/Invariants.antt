@@ -1,4 +1,4 @@
-use Rattle.std.proofs.Common.{◌≡◌, ◌++◌, drop, map}
+use Rattle.tb_items.proofs.Common.{◌≡◌, ◌++◌, drop, map}
 use Rattle.tb_items.specs.declared.item.BenchItem.TheVariants as b
 use Rattle.tb_items.proofs.step.add_assignments.Given as goal
 

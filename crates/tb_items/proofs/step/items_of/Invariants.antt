@@ -1,7 +1,4 @@
-use Rattle.std.proofs.Common.{◌≡◌, ◌++◌, drop}
-use Rattle.std.specs.List.{flat_map}
-use Rattle.vlog_meaning.specs.Scopes.{names_of}
-use Rattle.tb_items.specs.Items.{step_items}
+use Rattle.tb_items.proofs.Common.{◌≡◌, ◌++◌, drop, flat_map, names_of, step_items}
 use Rattle.tb_items.proofs.step.items_of.Given as goal
 
 abbrev pub invariant-loop-step : goal.invariant-loop-step

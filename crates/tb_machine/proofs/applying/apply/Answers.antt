@@ -1,5 +1,4 @@
-use Rattle.std.proofs.Common.{ℕ, ◌<◌, length, map, set, ap, ◌∙◌, arith}
-use Rattle.tb_machine.specs.Worlds.{replaced}
+use Rattle.tb_machine.proofs.Common.{ℕ, ◌<◌, length, map, set, ap, ◌∙◌, arith, replaced}
 use Rattle.tb_machine.proofs.Writing.{told_at, length_told}
 use Rattle.tb_machine.proofs.applying.apply.Goals as goal
 

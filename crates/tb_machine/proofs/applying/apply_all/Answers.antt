@@ -1,6 +1,4 @@
-use Rattle.std.proofs.Common.{ℕ, ◌+◌, ◌<◌, List, length, map, drop, ap, sym, subst, ◌∙◌, arith}
-use Rattle.std.specs.List.{All}
-use Rattle.tb_machine.specs.Worlds.{all_applied, Fits}
+use Rattle.tb_machine.proofs.Common.{ℕ, ◌+◌, ◌<◌, List, length, map, drop, ap, sym, subst, ◌∙◌, arith, All, all_applied, Fits}
 use Rattle.tb_machine.proofs.Writing.{rest_fits, next_applied}
 use Rattle.tb_machine.proofs.applying.apply_all.Goals as goal
 

@@ -1,6 +1,4 @@
-use Rattle.std.proofs.Common.{◌≡◌, map, drop}
-use Rattle.std.specs.List.{All}
-use Rattle.tb_machine.specs.Worlds.{all_applied, Fits}
+use Rattle.tb_machine.proofs.Common.{◌≡◌, map, drop, All, all_applied, Fits}
 use Rattle.tb_machine.proofs.applying.apply_all.Given as goal
 
 abbrev pub invariant-loop-update : goal.invariant-loop-update

@@ -1,4 +1,4 @@
-use Rattle.std.proofs.Common.{length}
+use Rattle.tb_machine.proofs.Common.{length}
 use Rattle.std.proofs.lemmas.Result.{IfOk-weaker}
 use Rattle.tb_machine.proofs.Executes.{conditional_step, case_step, repeat_step, forever_step, event_step, for_step, while_step}
 use Rattle.tb_machine.proofs.machine.execute.Goals as goal

@@ -1,5 +1,4 @@
-use Rattle.std.proofs.Common.{◌∙◌, refl, arith}
-use Rattle.tb_machine.specs.Nodes.{tree_of}
+use Rattle.tb_machine.proofs.Common.{◌∙◌, refl, arith, tree_of}
 use Rattle.tb_machine.proofs.Goes.{next_goes, next_waits, next_finishes}
 use Rattle.tb_machine.proofs.machine.go_on.Goals as goal
 

@@ -1,7 +1,4 @@
-use Rattle.std.proofs.Common.{◌≡◌, List, length}
-use Rattle.vlog_syntax.specs.declared.stmt.Stmt.{Stmt}
-use Rattle.tb_machine.specs.Steps.{goes_on}
-use Rattle.tb_machine.specs.Nodes.{tree_of, works, IsCode, FramesBelow}
+use Rattle.tb_machine.proofs.Common.{◌≡◌, List, length, Stmt, goes_on, tree_of, works, IsCode, FramesBelow}
 use Rattle.tb_machine.proofs.machine.go_on.Given as goal
 
 abbrev pub decreases-loop-frame : goal.decreases-loop-frame

@@ -1,6 +1,5 @@
-use Rattle.std.proofs.Common.{◌∙◌, ◌-◌, ◌∷◌, ap, arith, get_or, List}
+use Rattle.tb_machine.proofs.Common.{◌∙◌, ◌-◌, ◌∷◌, ap, arith, get_or, List, Work, Do}
 use Rattle.tb_machine.specs.declared.node.Frame.TheVariants as f
-use Rattle.tb_machine.specs.Steps.{Work, Do}
 use Rattle.tb_machine.proofs.Stacks.{works-push, below-push, block-step}
 use Rattle.tb_machine.proofs.machine.push_all.Goals as goal
 

@@ -1,8 +1,4 @@
-use Rattle.std.proofs.Common.{◌≡◌, ℕ, ◌<◌, ◌≤◌, List, map, drop, ◌++◌, length}
-use Rattle.std.specs.List.{All}
-use Rattle.tb_machine.specs.declared.node.Node.{Node}
-use Rattle.tb_machine.specs.Steps.{Do}
-use Rattle.tb_machine.specs.Nodes.{Tree, works, FramesBelow}
+use Rattle.tb_machine.proofs.Common.{◌≡◌, ℕ, ◌<◌, ◌≤◌, List, map, drop, ◌++◌, length, All, Node, Do, Tree, works, FramesBelow}
 use Rattle.tb_machine.proofs.machine.push_all.Given as goal
 
 abbrev pub decreases-loop-left : goal.decreases-loop-left

@@ -1,4 +1,4 @@
-use Rattle.std.proofs.Common.{refl}
+use Rattle.tb_machine.proofs.Common.{refl}
 use Rattle.tb_machine.specs.declared.node.Frame.TheVariants as f
 use Rattle.tb_machine.proofs.Stacks.{works-push}
 use Rattle.tb_machine.proofs.machine.push_next.Goals as goal

@@ -1,6 +1,5 @@
-use Rattle.std.proofs.Common.{◌≡◌, Some, slice_get, length, refl}
+use Rattle.tb_machine.proofs.Common.{◌≡◌, Some, slice_get, length, refl, tree_of, works}
 use Rattle.std.proofs.lemmas.Option.{slice_get_read}
-use Rattle.tb_machine.specs.Nodes.{tree_of, works}
 use Rattle.tb_machine.specs.declared.node.Frame.TheVariants as f
 use Rattle.tb_machine.proofs.Loops.{turns_turn}
 use Rattle.tb_machine.proofs.Stacks.{works-push}

@@ -1,4 +1,4 @@
-use Rattle.std.proofs.Common.{refl}
+use Rattle.tb_machine.proofs.Common.{refl}
 use Rattle.tb_machine.proofs.Loops.{for_turn, for_end, while_turn, while_end, no_loop}
 use Rattle.tb_machine.proofs.machine.test_loop.Goals as goal
 

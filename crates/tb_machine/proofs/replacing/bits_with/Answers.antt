@@ -1,4 +1,4 @@
-use Rattle.std.proofs.Common.{sym}
+use Rattle.tb_machine.proofs.Common.{sym}
 use Rattle.tb_machine.proofs.Places.{all_replaced}
 use Rattle.tb_machine.proofs.replacing.bits_with.Goals as goal
 

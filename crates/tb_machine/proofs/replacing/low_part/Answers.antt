@@ -1,5 +1,4 @@
-use Rattle.std.proofs.Common.{◌≡◌, ◌-◌, ◌*◌, ◌%◌, ◌^◌, bit_and}
-use Rattle.std.proofs.lemmas.Nat.{and_mask, one_shl}
+use Rattle.tb_machine.proofs.Common.{◌≡◌, ◌-◌, ◌*◌, ◌%◌, ◌^◌, bit_and, and_mask, one_shl}
 use Rattle.tb_machine.proofs.replacing.low_part.Goals as goal
 
 pub returns : goal.returns

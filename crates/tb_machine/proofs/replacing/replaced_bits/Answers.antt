@@ -1,4 +1,4 @@
-use Rattle.std.proofs.Common.{◌≡◌, ◌+◌, ◌*◌, ◌/◌, ◌%◌, ◌<◌, ◌≤◌, ◌^◌, arith}
+use Rattle.tb_machine.proofs.Common.{◌≡◌, ◌+◌, ◌*◌, ◌/◌, ◌%◌, ◌<◌, ◌≤◌, ◌^◌, arith}
 use Rattle.tb_machine.proofs.Places.{low_and_middle, all_below, power_le, shifted}
 use Rattle.tb_machine.proofs.replacing.replaced_bits.Goals as goal
 

@@ -1,9 +1,4 @@
-use Rattle.std.proofs.Common.{◌≡◌, ◌∙◌, ◌<◌, refl, arith, length}
-use Rattle.std.proofs.lemmas.List.Elements.{All-set}
-use Rattle.tb_machine.specs.Steps.{Pauses, Finished, TooLong}
-use Rattle.tb_machine.specs.Phases.{woken}
-use Rattle.tb_machine.specs.Nodes.{Tree, tree_of}
-use Rattle.tb_machine.specs.Machine.{suspended, all_suspended, StackBelow}
+use Rattle.tb_machine.proofs.Common.{◌≡◌, ◌∙◌, ◌<◌, refl, arith, length, All-set, Pauses, Finished, TooLong, woken, Tree, tree_of, suspended, all_suspended, StackBelow}
 use Rattle.tb_machine.proofs.Wakes.{ran_pauses, ran_finished, ran_too_long, next_pauses, next_finished, next_too_long, suspended-at, suspended-length, suspended-set, all_gone}
 use Rattle.tb_machine.proofs.wake.wake_all.Goals as goal
 

@@ -1,8 +1,4 @@
-use Rattle.std.proofs.Common.{◌≡◌, List, length, take, drop}
-use Rattle.vlog_syntax.specs.declared.stmt.Stmt.{Stmt}
-use Rattle.tb_machine.specs.Phases.{all_woken}
-use Rattle.tb_machine.specs.Nodes.{tree_of, IsCode}
-use Rattle.tb_machine.specs.Machine.{all_suspended, StacksBelow}
+use Rattle.tb_machine.proofs.Common.{◌≡◌, List, length, take, drop, Stmt, all_woken, tree_of, IsCode, all_suspended, StacksBelow}
 use Rattle.tb_machine.proofs.Wakes.{with_first}
 use Rattle.tb_machine.proofs.wake.wake_all.Given as goal
 

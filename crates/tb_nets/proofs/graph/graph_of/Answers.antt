@@ -1,7 +1,4 @@
-use Rattle.std.proofs.Common.{map, arith}
-use Rattle.vlog_meaning.specs.Scopes.{names_of}
-use Rattle.tb_nets.specs.Nets.{wiring, IsSided}
-use Rattle.tb_nets.specs.Writers.{rows_of, writes_in}
+use Rattle.tb_nets.proofs.Common.{map, arith, names_of, wiring, IsSided, rows_of, writes_in}
 use Rattle.tb_nets.proofs.Graphs.{node_at, node_sided, no_rows, rows_pushed, graph_is}
 use Rattle.tb_nets.proofs.graph.graph_of.Goals as goal
 

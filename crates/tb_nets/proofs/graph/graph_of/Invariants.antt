@@ -1,7 +1,4 @@
-use Rattle.std.proofs.Common.{map}
-use Rattle.vlog_meaning.specs.Scopes.{names_of}
-use Rattle.tb_nets.specs.Nets.{wiring}
-use Rattle.tb_nets.specs.Writers.{rows_of, writes_in}
+use Rattle.tb_nets.proofs.Common.{map, names_of, wiring, rows_of, writes_in}
 use Rattle.tb_nets.proofs.Graphs.{AreRows}
 use Rattle.tb_nets.proofs.graph.graph_of.Given as goal
 

@@ -1,6 +1,4 @@
-use Rattle.vlog_meaning.specs.Scopes.{names_of}
-use Rattle.tb_nets.specs.Nets.{wiring, node_reads}
-use Rattle.tb_nets.specs.Writers.{rows_of}
+use Rattle.tb_nets.proofs.Common.{names_of, wiring, node_reads, rows_of}
 use Rattle.tb_nets.proofs.Sharing.{are_writers}
 use Rattle.tb_nets.proofs.graph.read_by.Goals as goal
 

@@ -1,8 +1,4 @@
-use Rattle.std.proofs.Common.{List, ap, ◌∙◌, arith}
-use Rattle.vlog_meaning.specs.Scopes.{names_of}
-use Rattle.tb_nets.specs.declared.table.Writer.{Writer}
-use Rattle.tb_nets.specs.Nets.{wiring, IsSided}
-use Rattle.tb_nets.specs.Writers.{writes_in}
+use Rattle.tb_nets.proofs.Common.{List, ap, ◌∙◌, arith, names_of, Writer, wiring, IsSided, writes_in}
 use Rattle.tb_nets.proofs.Graphs.{node_at, node_sided, none_written, more_writers}
 use Rattle.tb_nets.proofs.graph.writers_of.Goals as goal
 

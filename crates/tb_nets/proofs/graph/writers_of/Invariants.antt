@@ -1,7 +1,4 @@
-use Rattle.std.proofs.Common.{List, ℕ}
-use Rattle.vlog_meaning.specs.Scopes.{names_of}
-use Rattle.tb_nets.specs.Nets.{wiring}
-use Rattle.tb_nets.specs.Writers.{rows_of, AreWriters}
+use Rattle.tb_nets.proofs.Common.{List, ℕ, names_of, wiring, rows_of, AreWriters}
 use Rattle.tb_nets.proofs.graph.writers_of.Given as goal
 
 abbrev pub invariant-loop-number : goal.invariant-loop-number

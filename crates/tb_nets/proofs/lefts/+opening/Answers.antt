@@ -1,7 +1,6 @@
-use Rattle.std.proofs.Common.{rules, sym, refl, add-one, arith}
+use Rattle.tb_nets.proofs.Common.{rules, sym, refl, add-one, arith, names_of, or_end, fit_element}
 use Rattle.vlog_syntax.specs.declared.left_side.LeftSide.TheViews.{the_lemmas}
-use Rattle.vlog_meaning.specs.Scopes.{names_of}
-use Rattle.tb_nets.proofs.Opens.{or_end, bit_sized, indexed_sized, fit_joined, fit_element, open_name, open_range, open_bit, open_indexed, open_joined, more_open}
+use Rattle.tb_nets.proofs.Opens.{bit_sized, indexed_sized, fit_joined, open_name, open_range, open_bit, open_indexed, open_joined, more_open}
 use Rattle.tb_nets.proofs.lefts.+opening.Goals as goal
 
 pub opened_by-add_open-requires : goal.opened_by-add_open-requires

@@ -1,8 +1,4 @@
-use Rattle.std.proofs.Common.{◌≡◌, ℕ, ◌||◌, map, take}
-use Rattle.vlog_meaning.specs.Scopes.{names_of}
-use Rattle.vlog_effects.specs.LeftSides.{parts_of, concatenated}
-use Rattle.signal_masks.specs.Masks.{bits_in}
-use Rattle.tb_nets.specs.Lefts.{parts_open}
+use Rattle.tb_nets.proofs.Common.{◌≡◌, ℕ, ◌||◌, map, take, names_of, parts_of, concatenated, bits_in, parts_open}
 use Rattle.tb_nets.proofs.lefts.+opening.Given as goal
 
 abbrev pub invariant-opened_by_all-loop-part : goal.invariant-opened_by_all-loop-part

@@ -1,4 +1,4 @@
-use Rattle.std.proofs.Common.{sym, ◌∙◌}
+use Rattle.tb_nets.proofs.Common.{sym, ◌∙◌}
 use Rattle.tb_nets.proofs.Opens.{opened, closed}
 use Rattle.tb_nets.proofs.lefts.add_open.Goals as goal
 

@@ -1,4 +1,4 @@
-use Rattle.std.proofs.Common.{arith}
+use Rattle.tb_nets.proofs.Common.{arith}
 use Rattle.vlog_meaning.proofs.Powers.{power_fits}
 use Rattle.tb_nets.proofs.lefts.below.Goals as goal
 

@@ -1,5 +1,4 @@
-use Rattle.std.proofs.Common.{sym, add-one, arith}
-use Rattle.tb_nets.proofs.Opens.{or_end}
+use Rattle.tb_nets.proofs.Common.{sym, add-one, arith, or_end}
 use Rattle.tb_nets.proofs.Signals.{more_signals}
 use Rattle.tb_nets.proofs.node.add_signals.Goals as goal
 

@@ -1,6 +1,4 @@
-use Rattle.std.proofs.Common.{◌≡◌, ℕ, ◌||◌, take}
-use Rattle.signal_masks.specs.Masks.{bits_in}
-use Rattle.tb_nets.specs.Nets.{signal_bits}
+use Rattle.tb_nets.proofs.Common.{◌≡◌, ℕ, ◌||◌, take, bits_in, signal_bits}
 use Rattle.tb_nets.proofs.node.add_signals.Given as goal
 
 abbrev pub invariant-loop-number : goal.invariant-loop-number

@@ -1,5 +1,4 @@
-use Rattle.tb_bench.specs.Settings.{widths, setting_of, start_of}
-use Rattle.tb_once.specs.Stores.{AreValues}
+use Rattle.tb_once.proofs.Common.{widths, setting_of, start_of, AreValues}
 use Rattle.tb_once.proofs.Values.{values_of_words}
 use Rattle.tb_once.proofs.Outcomes.{goes_on}
 use Rattle.tb_once.proofs.Steady.{bench_steady}

@@ -1,8 +1,4 @@
-use Rattle.std.proofs.Common.{subst}
-use Rattle.vlog_meaning.specs.Scopes.{names_of}
-use Rattle.elab_proc.proofs.CaseLemmas.{within_at}
-use Rattle.tb_plans.specs.Making.{IsLabelOf}
-use Rattle.tb_plans.specs.Values.{OfValue}
+use Rattle.tb_plans.proofs.Common.{subst, names_of, within_at, IsLabelOf, OfValue}
 use Rattle.tb_plans.proofs.Zips.{zip_more}
 use Rattle.tb_plans.proofs.choices.arm_of.Goals as goal
 

@@ -1,7 +1,4 @@
-use Rattle.std.proofs.Common.{take}
-use Rattle.std.specs.List.{AllZip}
-use Rattle.vlog_meaning.specs.Scopes.{names_of}
-use Rattle.tb_plans.specs.Making.{IsLabelOf}
+use Rattle.tb_plans.proofs.Common.{take, AllZip, names_of, IsLabelOf}
 use Rattle.tb_plans.proofs.choices.arm_of.Given as goal
 
 abbrev pub invariant-loop-label : goal.invariant-loop-label

@@ -1,8 +1,4 @@
-use Rattle.std.proofs.Common.{List, subst}
-use Rattle.vlog_syntax.specs.declared.expr.Expr.{Expr}
-use Rattle.vlog_meaning.specs.Scopes.{names_of}
-use Rattle.tb_choices.proofs.Labels.{labels_whole_at, labels_within_at}
-use Rattle.tb_plans.specs.Making.{IsArmOf, IsItemArm, OfArm}
+use Rattle.tb_plans.proofs.Common.{List, subst, Expr, names_of, labels_whole_at, labels_within_at, IsArmOf, IsItemArm, OfArm}
 use Rattle.tb_plans.proofs.Zips.{zip_more}
 use Rattle.tb_plans.proofs.choices.arms_of.Goals as goal
 

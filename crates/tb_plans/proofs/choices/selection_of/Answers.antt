@@ -1,11 +1,5 @@
-use Rattle.std.proofs.Common.{List, ◌∷◌, ap, ◌∙◌}
-use Rattle.std.specs.List.{flat_map}
-use Rattle.vlog_syntax.specs.declared.expr.Expr.{Expr}
-use Rattle.vlog_meaning.specs.Scopes.{names_of}
-use Rattle.elab_proc.specs.Refusals.{common_size}
-use Rattle.elab_proc.proofs.CaseLemmas.{common_within}
-use Rattle.tb_machine.specs.Nodes.{choice_labels}
-use Rattle.tb_choices.proofs.Labels.{flat_of_map}
+use Rattle.tb_plans.proofs.Common.{List, ◌∷◌, ap, ◌∙◌, flat_map, Expr, names_of, common_within, choice_labels, flat_of_map}
+use Rattle.vlog_refusals.specs.Cases.{common_size}
 use Rattle.tb_plans.proofs.choices.selection_of.Goals as goal
 
 pub arms_of-requires-clause-within : goal.arms_of-requires-clause-within

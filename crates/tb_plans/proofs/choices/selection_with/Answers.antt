@@ -1,6 +1,4 @@
-use Rattle.std.proofs.Common.{subst}
-use Rattle.vlog_meaning.specs.Scopes.{names_of}
-use Rattle.tb_plans.specs.Values.{OfValue}
+use Rattle.tb_plans.proofs.Common.{subst, names_of, OfValue}
 use Rattle.tb_plans.proofs.Arms.{selection_is}
 use Rattle.tb_plans.proofs.choices.selection_with.Goals as goal
 

@@ -1,8 +1,4 @@
-use Rattle.std.proofs.Common.{refl, subst}
-use Rattle.vlog_meaning.specs.Scopes.{Names, names_of}
-use Rattle.vlog_meaning.specs.Senses.{sense}
-use Rattle.vlog_effects.specs.LeftSides.{Bit}
-use Rattle.tb_plans.specs.Values.{OfValue}
+use Rattle.tb_plans.proofs.Common.{refl, subst, Names, names_of, sense, Bit, OfValue}
 use Rattle.tb_plans.proofs.Targets.{index_target}
 use Rattle.tb_plans.proofs.left.bit_target.Goals as goal
 

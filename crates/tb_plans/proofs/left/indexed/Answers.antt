@@ -1,8 +1,4 @@
-use Rattle.std.proofs.Common.{ap, sym, ◌∙◌}
-use Rattle.std.specs.Prelude.{ℤ}
-use Rattle.vlog_meaning.specs.Integers.{integer}
-use Rattle.tb_assigns.specs.Pieces.{vector_is}
-use Rattle.tb_assigns.specs.Updates.{window_update}
+use Rattle.tb_plans.proofs.Common.{ap, sym, ◌∙◌, ℤ, integer, vector_is, window_update}
 use Rattle.tb_plans.proofs.Targets.{number_is}
 use Rattle.tb_plans.proofs.left.indexed.Goals as goal
 

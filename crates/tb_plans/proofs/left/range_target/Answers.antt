@@ -1,5 +1,4 @@
-use Rattle.vlog_meaning.specs.Scopes.{names_of}
-use Rattle.vlog_effects.specs.LeftSides.{Range}
+use Rattle.tb_plans.proofs.Common.{names_of, Range}
 use Rattle.tb_plans.proofs.Targets.{piece_target}
 use Rattle.tb_plans.proofs.left.range_target.Goals as goal
 

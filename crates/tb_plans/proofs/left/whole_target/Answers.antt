@@ -1,5 +1,4 @@
-use Rattle.vlog_meaning.specs.Scopes.{names_of}
-use Rattle.vlog_effects.specs.LeftSides.{Whole}
+use Rattle.tb_plans.proofs.Common.{names_of, Whole}
 use Rattle.tb_plans.proofs.Targets.{piece_target}
 use Rattle.tb_plans.proofs.left.whole_target.Goals as goal
 

@@ -1,5 +1,4 @@
-use Rattle.std.proofs.Common.{refl}
-use Rattle.vlog_meaning.specs.Scopes.{names_of}
+use Rattle.tb_plans.proofs.Common.{refl, names_of}
 use Rattle.tb_assigns.specs.Checks.{can_assign}
 use Rattle.tb_assigns.proofs.Checking.{check_can}
 use Rattle.tb_plans.proofs.nets.net_plan.Goals as goal

@@ -1,6 +1,4 @@
-use Rattle.std.proofs.Common.{arith}
-use Rattle.vlog_meaning.specs.Scopes.{names_of}
-use Rattle.tb_plans.specs.Making.{IsNetPlan}
+use Rattle.tb_plans.proofs.Common.{arith, names_of, IsNetPlan}
 use Rattle.tb_plans.proofs.Numbering.{net_plans_are}
 use Rattle.tb_plans.proofs.Zips.{zip_more, zip_end}
 use Rattle.tb_plans.proofs.nets.plan_nets.Goals as goal

@@ -1,7 +1,4 @@
-use Rattle.std.proofs.Common.{take}
-use Rattle.std.specs.List.{AllZip}
-use Rattle.vlog_meaning.specs.Scopes.{names_of}
-use Rattle.tb_plans.specs.Making.{IsNetPlan}
+use Rattle.tb_plans.proofs.Common.{take, AllZip, names_of, IsNetPlan}
 use Rattle.tb_plans.proofs.nets.plan_nets.Given as goal
 
 abbrev pub invariant-loop-node : goal.invariant-loop-node

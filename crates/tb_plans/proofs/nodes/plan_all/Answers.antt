@@ -1,9 +1,4 @@
-use Rattle.std.proofs.Common.{arith}
-use Rattle.vlog_meaning.specs.Scopes.{Names, names_of}
-use Rattle.vlog_meaning.specs.Senses.{IsWhole}
-use Rattle.tb_machine.specs.Known.{IsKnown}
-use Rattle.tb_assigns.specs.Updates.{CanAssign}
-use Rattle.tb_plans.specs.Making.{IsNodePlan}
+use Rattle.tb_plans.proofs.Common.{arith, Names, names_of, IsWhole, IsKnown, CanAssign, IsNodePlan}
 use Rattle.tb_plans.proofs.Knowing.{without_tasks}
 use Rattle.tb_plans.proofs.Numbering.{plans_are}
 use Rattle.tb_plans.proofs.Zips.{all_at, zip_more, zip_end}

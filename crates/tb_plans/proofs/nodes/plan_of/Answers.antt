@@ -1,13 +1,6 @@
-use Rattle.std.proofs.Common.{List, map, sym, subst}
-use Rattle.std.specs.List.{All}
+use Rattle.tb_plans.proofs.Common.{List, map, sym, subst, All, Names, names_of, IsWhole, Choice, IsKnown, choice_labels, CanAssign}
 use Rattle.std.proofs.lemmas.List.Elements.{All-map}
-use Rattle.vlog_meaning.specs.Scopes.{Names, names_of}
-use Rattle.vlog_meaning.specs.Senses.{IsWhole}
-use Rattle.tb_machine.specs.declared.node.Choice.{Choice}
-use Rattle.tb_machine.specs.Known.{IsKnown}
-use Rattle.tb_machine.specs.Nodes.{choice_labels}
 use Rattle.tb_choices.specs.Choices.{LabelsWhole}
-use Rattle.tb_assigns.specs.Updates.{CanAssign}
 use Rattle.tb_plans.proofs.nodes.plan_of.Goals as goal
 
 pub selection_of-requires-clause-labels : goal.selection_of-requires-clause-labels

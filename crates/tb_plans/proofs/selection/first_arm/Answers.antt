@@ -1,7 +1,4 @@
-use Rattle.std.proofs.Common.{ℕ, List, map, subst, sym}
-use Rattle.std.specs.List.{All}
-use Rattle.mcy_base.specs.declared.word.Word.{Word}
-use Rattle.tb_plans.specs.Selections.{LabelFits, ArmFits}
+use Rattle.tb_plans.proofs.Common.{ℕ, List, map, subst, sym, All, Word, LabelFits, ArmFits}
 use Rattle.tb_plans.proofs.Zips.{all_at}
 use Rattle.tb_plans.proofs.selection.first_arm.Goals as goal
 

@@ -1,6 +1,4 @@
-use Rattle.std.proofs.Common.{◌≡◌, drop}
-use Rattle.vlog_meaning.specs.Scopes.{store_of}
-use Rattle.tb_plans.specs.Selections.{first_arm}
+use Rattle.tb_plans.proofs.Common.{◌≡◌, drop, store_of, first_arm}
 use Rattle.tb_plans.proofs.selection.first_arm.Given as goal
 
 abbrev pub invariant-loop-number : goal.invariant-loop-number

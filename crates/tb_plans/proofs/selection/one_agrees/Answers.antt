@@ -1,6 +1,4 @@
-use Rattle.std.proofs.Common.{map}
-use Rattle.mcy_base.specs.declared.word.Word.{Word}
-use Rattle.tb_plans.specs.Selections.{LabelFits}
+use Rattle.tb_plans.proofs.Common.{map, Word, LabelFits}
 use Rattle.tb_plans.proofs.Zips.{all_at}
 use Rattle.tb_plans.proofs.selection.one_agrees.Goals as goal
 

@@ -1,6 +1,4 @@
-use Rattle.std.proofs.Common.{◌≡◌, drop}
-use Rattle.vlog_meaning.specs.Scopes.{store_of}
-use Rattle.tb_plans.specs.Selections.{one_agrees}
+use Rattle.tb_plans.proofs.Common.{◌≡◌, drop, store_of, one_agrees}
 use Rattle.tb_plans.proofs.selection.one_agrees.Given as goal
 
 abbrev pub invariant-loop-label : goal.invariant-loop-label

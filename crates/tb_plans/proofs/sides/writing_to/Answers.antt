@@ -1,7 +1,4 @@
-use Rattle.std.proofs.Common.{subst}
-use Rattle.vlog_syntax.specs.declared.expr.Expr.{Expr}
-use Rattle.vlog_meaning.specs.Scopes.{Names, names_of}
-use Rattle.tb_plans.specs.Values.{IsValueOf, OfValue}
+use Rattle.tb_plans.proofs.Common.{subst, Expr, Names, names_of, IsValueOf, OfValue}
 use Rattle.tb_plans.proofs.Writings.{transfer_is}
 use Rattle.tb_plans.proofs.sides.writing_to.Goals as goal
 

@@ -1,4 +1,4 @@
-use Rattle.vlog_meaning.specs.Scopes.{names_of}
+use Rattle.tb_plans.proofs.Common.{names_of}
 use Rattle.tb_plans.proofs.Values.{condition_value}
 use Rattle.tb_plans.proofs.value.condition_of.Goals as goal
 

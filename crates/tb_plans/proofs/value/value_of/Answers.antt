@@ -1,5 +1,4 @@
-use Rattle.std.proofs.Common.{sym, ◌∙◌}
-use Rattle.vlog_meaning.specs.Scopes.{names_of}
+use Rattle.tb_plans.proofs.Common.{sym, ◌∙◌, names_of}
 use Rattle.tb_plans.proofs.Values.{still_value}
 use Rattle.tb_plans.proofs.value.value_of.Goals as goal
 

@@ -1,10 +1,4 @@
-use Rattle.std.proofs.Common.{List, map, refl, ap, sym, ◌∙◌, subst}
-use Rattle.tb_machine.specs.declared.node.Node.{Node}
-use Rattle.tb_machine.specs.Nodes.{IsCode, tree_of}
-use Rattle.tb_machine.specs.Phases.{max_statements}
-use Rattle.tb_machine.specs.Machine.{all_suspended}
-use Rattle.tb_evaluator.specs.Meanings.{meaning}
-use Rattle.tb_bench.specs.Settings.{names, begun}
+use Rattle.tb_process.proofs.Common.{List, map, refl, ap, sym, ◌∙◌, subst, Node, IsCode, tree_of, max_statements, all_suspended, meaning, names, begun}
 use Rattle.tb_process.proofs.Answered.{lent_answered}
 use Rattle.tb_process.proofs.Answering.{both_ran}
 use Rattle.tb_process.proofs.Keeping.{widths_left, woken_widths}

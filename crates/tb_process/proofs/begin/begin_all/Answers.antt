@@ -1,7 +1,4 @@
-use Rattle.std.proofs.Common.{◌<◌, length, arith}
-use Rattle.std.proofs.lemmas.List.Elements.{All-push, All-get_or}
-use Rattle.tb_machine.specs.Machine.{StackBelow}
-use Rattle.tb_bench.specs.Runnable.{IsBelow}
+use Rattle.tb_process.proofs.Common.{◌<◌, length, arith, All-push, All-get_or, StackBelow, IsBelow}
 use Rattle.tb_process.proofs.Beginning.{one_begun}
 use Rattle.tb_process.proofs.begin.begin_all.Goals as goal
 

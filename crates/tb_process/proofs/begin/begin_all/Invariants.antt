@@ -1,10 +1,4 @@
-use Rattle.std.proofs.Common.{◌≡◌, ℕ, List, ◌++◌, map, drop}
-use Rattle.std.specs.List.{All}
-use Rattle.tb_machine.specs.declared.node.Node.{Node}
-use Rattle.tb_machine.specs.Nodes.{Tree}
-use Rattle.tb_machine.specs.Machine.{all_suspended, StacksBelow}
-use Rattle.tb_bench.specs.Settings.{begun}
-use Rattle.tb_bench.specs.Runnable.{IsBelow}
+use Rattle.tb_process.proofs.Common.{◌≡◌, ℕ, List, ◌++◌, map, drop, All, Node, Tree, all_suspended, StacksBelow, begun, IsBelow}
 use Rattle.tb_process.proofs.begin.begin_all.Given as goal
 
 abbrev pub invariant-loop-process : goal.invariant-loop-process

@@ -1,7 +1,4 @@
-use Rattle.std.proofs.Common.{◌<◌, length, ◌∙◌, arith}
-use Rattle.std.proofs.lemmas.List.{length-set}
-use Rattle.std.proofs.lemmas.List.Elements.{All-get_or}
-use Rattle.tb_bench.specs.Runnable.{IsBelow}
+use Rattle.tb_process.proofs.Common.{◌<◌, length, ◌∙◌, arith, length-set, All-get_or, IsBelow}
 use Rattle.tb_process.proofs.Beginning.{next_begun, next_below, each_begun, each_below}
 use Rattle.tb_process.proofs.begin.begin_each.Goals as goal
 

@@ -1,4 +1,4 @@
-use Rattle.tb_machine.specs.Nodes.{tree_of}
+use Rattle.tb_process.proofs.Common.{tree_of}
 use Rattle.tb_process.proofs.Following.{goes_on, finishes, is_too_long}
 use Rattle.tb_process.proofs.phase.run_phase.Goals as goal
 

@@ -1,9 +1,4 @@
-use Rattle.std.proofs.Common.{◌≡◌, ℕ, List, OnOk, ap, sym, subst}
-use Rattle.netlist_core.specs.Checked.{Plan}
-use Rattle.tb_machine.specs.Worlds.{World, all_applied}
-use Rattle.tb_machine.specs.Phases.{Settles}
-use Rattle.tb_bench.specs.Settings.{setting_of}
-use Rattle.tb_process.specs.Running.{next_of}
+use Rattle.tb_process.proofs.Common.{◌≡◌, ℕ, List, OnOk, ap, sym, subst, Plan, World, all_applied, Settles, setting_of, next_of}
 use Rattle.tb_process.proofs.settle.end_phase.Goals as goal
 
 pub returns-clause-settles : goal.returns-clause-settles

@@ -1,11 +1,6 @@
-use Rattle.std.proofs.Common.{◌≡◌, ℕ, List, OnOk, refl, ap, sym, subst}
-use Rattle.netlist_core.specs.Checked.{Plan}
+use Rattle.tb_process.proofs.Common.{◌≡◌, ℕ, List, OnOk, refl, ap, sym, subst, Plan, settled_nets, Setting, Settles, names, setting_of, next_of}
 use Rattle.netlist_core.specs.Runs.{bits_at, plain, taken}
-use Rattle.cycle_sim.specs.Simulated.{settled_nets}
-use Rattle.tb_machine.specs.Phases.{Setting, Settles}
 use Rattle.tb_settling.specs.Settling.{values_at, whole_updates, IsNetsOf}
-use Rattle.tb_bench.specs.Settings.{names, setting_of}
-use Rattle.tb_process.specs.Running.{next_of}
 use Rattle.tb_process.proofs.settle.settle_nets.Goals as goal
 
 pub returns-clause-settles : goal.returns-clause-settles

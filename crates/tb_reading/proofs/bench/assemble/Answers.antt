@@ -1,9 +1,5 @@
-use Rattle.std.proofs.Common.{[], refl, sym, subst}
+use Rattle.tb_reading.proofs.Common.{[], refl, sym, subst, Names, names_of, Parts, HasParts, processes}
 use Rattle.vlog_syntax.specs.declared.item.ProcessKind.TheVariants as k
-use Rattle.vlog_meaning.specs.Scopes.{Names, names_of}
-use Rattle.tb_bench.specs.declared.parts.Parts.{Parts}
-use Rattle.tb_reading.specs.Benches.{HasParts}
-use Rattle.tb_reading.specs.Processes.{processes}
 use Rattle.tb_reading.proofs.Assembling.{Coded, Assembled, known_so, sides_so, plans_so, net_plans_so, can_run, has_parts, listed}
 use Rattle.tb_reading.proofs.bench.assemble.Goals as goal
 

@@ -1,6 +1,5 @@
-use Rattle.std.proofs.Common.{None, inr}
+use Rattle.tb_reading.proofs.Common.{None, inr, IsReason}
 use Rattle.tb_wired.specs.declared.wired.Wired.TheVariants as w
-use Rattle.tb_reading.specs.Reasons.{IsReason}
 use Rattle.tb_reading.proofs.Accepting.{accepted}
 use Rattle.tb_reading.proofs.Making.{refused_so, faultless_so, wired_so, settles_so, loops_so, bench_so}
 use Rattle.tb_reading.proofs.bench.make.Goals as goal

@@ -1,4 +1,4 @@
-use Rattle.std.proofs.Common.{arith}
+use Rattle.tb_reading.proofs.Common.{arith}
 use Rattle.tb_reading.proofs.Judging.{generator_here, generator_later}
 use Rattle.tb_reading.proofs.clock.clock_in.Goals as goal
 

@@ -1,5 +1,4 @@
-use Rattle.std.proofs.Common.{◌≡◌, drop}
-use Rattle.tb_reading.specs.Benches.{first_generator}
+use Rattle.tb_reading.proofs.Common.{◌≡◌, drop, first_generator}
 use Rattle.tb_reading.proofs.clock.clock_in.Given as goal
 
 abbrev pub invariant-loop-item : goal.invariant-loop-item

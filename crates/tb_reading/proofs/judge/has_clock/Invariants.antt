@@ -1,5 +1,4 @@
-use Rattle.std.proofs.Common.{◌≡◌, drop}
-use Rattle.tb_refusals.specs.Refusals.{is_generator, some_item}
+use Rattle.tb_reading.proofs.Common.{◌≡◌, drop, is_generator, some_item}
 use Rattle.tb_reading.proofs.judge.has_clock.Given as goal
 
 abbrev pub invariant-loop-item : goal.invariant-loop-item

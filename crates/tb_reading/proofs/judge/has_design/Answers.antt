@@ -1,5 +1,4 @@
-use Rattle.std.proofs.Common.{sym, ◌∙◌, arith}
-use Rattle.tb_refusals.specs.Refusals.{is_design}
+use Rattle.tb_reading.proofs.Common.{sym, ◌∙◌, arith, is_design}
 use Rattle.tb_reading.proofs.Judging.{some_here, some_later, some_nowhere}
 use Rattle.tb_reading.proofs.judge.has_design.Goals as goal
 

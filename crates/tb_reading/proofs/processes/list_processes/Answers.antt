@@ -1,5 +1,4 @@
-use Rattle.std.proofs.Common.{arith}
-use Rattle.tb_reading.specs.Processes.{item_processes}
+use Rattle.tb_reading.proofs.Common.{arith, item_processes}
 use Rattle.tb_reading.proofs.Listing.{next_wait}
 use Rattle.tb_reading.proofs.processes.list_processes.Goals as goal
 

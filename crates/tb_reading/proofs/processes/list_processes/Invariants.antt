@@ -1,5 +1,4 @@
-use Rattle.std.proofs.Common.{[], take}
-use Rattle.tb_reading.specs.Processes.{processes, AddsWaiting}
+use Rattle.tb_reading.proofs.Common.{[], take, processes, AddsWaiting}
 use Rattle.tb_reading.proofs.processes.list_processes.Given as goal
 
 abbrev pub invariant-loop-item : goal.invariant-loop-item

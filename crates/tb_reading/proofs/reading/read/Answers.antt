@@ -1,18 +1,6 @@
-use Rattle.std.proofs.Common.{◌≡◌, ℕ, List, ◌++◌, length, sym, ap, ◌∙◌, subst}
-use Rattle.netlist_core.specs.declared.raw.RawNetlist.{RawNetlist}
-use Rattle.vlog_meaning.specs.declared.scope.Decl.{Decl}
-use Rattle.vlog_meaning.specs.Scopes.{Names, names_of}
-use Rattle.flat_scopes.specs.declared.opening.Step.{Step}
-use Rattle.flat_scopes.specs.declared.signal.Signal.{Signal}
-use Rattle.flat_scopes.specs.Openings.{Opened}
-use Rattle.flat_scopes.specs.Views.{opened_of}
+use Rattle.tb_reading.proofs.Common.{◌≡◌, ℕ, List, ◌++◌, length, sym, ap, ◌∙◌, subst, RawNetlist, Decl, Names, names_of, Step, Signal, Opened, opened_of, BenchItem, clock_of, held_instance, items_of}
+use Rattle.tb_reading.proofs.Common.{Stands, started, Reading, instance_names, input_numbers, output_numbers, instance_widths, instance_values, signal_widths, zeros}
 use Rattle.flat_laws.specs.Sound.{NamesSignal}
-use Rattle.tb_items.specs.declared.item.BenchItem.{BenchItem}
-use Rattle.tb_items.specs.Items.{clock_of, held_instance, items_of}
-use Rattle.tb_signals.specs.Opened.{Stands}
-use Rattle.tb_contents.specs.Starts.{started}
-use Rattle.tb_reading.specs.declared.reading.Reading.{Reading}
-use Rattle.tb_reading.specs.Readings.{instance_names, input_numbers, output_numbers, instance_widths, instance_values, signal_widths, zeros}
 use Rattle.tb_reading.proofs.Following.{Steps, is_read}
 use Rattle.tb_reading.proofs.reading.read.Goals as goal
 

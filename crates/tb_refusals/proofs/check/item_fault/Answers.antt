@@ -1,9 +1,4 @@
-use Rattle.std.proofs.Common.{ap, subst, ◌∙◌}
-use Rattle.tb_faults.specs.Order.{IsFirst}
-use Rattle.tb_writers.specs.Writers.{Written, writer_faults}
-use Rattle.tb_writers.specs.Views.{written_of}
-use Rattle.tb_refusals.specs.Refusals.{own_item_faults, written}
-use Rattle.tb_refusals.specs.Views.{context_of}
+use Rattle.tb_refusals.proofs.Common.{ap, subst, ◌∙◌, IsFirst, Written, writer_faults, written_of, own_item_faults, written, context_of}
 use Rattle.tb_refusals.proofs.Notes.{seen_more}
 use Rattle.tb_refusals.proofs.check.item_fault.Goals as goal
 

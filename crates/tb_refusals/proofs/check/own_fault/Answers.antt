@@ -1,14 +1,8 @@
-use Rattle.std.proofs.Common.{Bool, not, ◌&&◌, sym, subst}
+use Rattle.tb_refusals.proofs.Common.{Bool, not, ◌&&◌, sym, subst, BenchFault, TwoClocks, IsFirst, BenchItem, second, generator_faults, own_item_faults, some_item, is_generator, may_start, context_of}
 use Rattle.std.specs.Prelude.{Option}
 use Rattle.std.proofs.lemmas.Result.{IfOk-weaker}
 use Rattle.vlog_syntax.specs.declared.item.Process.{Process}
-use Rattle.tb_faults.specs.declared.fault.BenchFault.{BenchFault}
-use Rattle.tb_faults.specs.declared.fault.BenchFault.TheVariants.{TwoClocks}
-use Rattle.tb_faults.specs.Order.{IsFirst}
 use Rattle.tb_checks.specs.Processes.{process_faults}
-use Rattle.tb_items.specs.declared.item.BenchItem.{BenchItem}
-use Rattle.tb_refusals.specs.Refusals.{second, generator_faults, own_item_faults, some_item, is_generator, may_start}
-use Rattle.tb_refusals.specs.Views.{context_of}
 use Rattle.tb_refusals.proofs.check.own_fault.Goals as goal
 
 pub returns-in-Clocks : goal.returns-in-Clocks

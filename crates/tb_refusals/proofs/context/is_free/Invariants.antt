@@ -1,5 +1,4 @@
-use Rattle.std.proofs.Common.{◌≡◌, drop}
-use Rattle.tb_refusals.specs.Refusals.{is_free}
+use Rattle.tb_refusals.proofs.Common.{◌≡◌, drop, is_free}
 use Rattle.tb_refusals.proofs.context.is_free.Given as goal
 
 abbrev pub invariant-loop-item : goal.invariant-loop-item

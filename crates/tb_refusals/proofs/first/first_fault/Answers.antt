@@ -1,6 +1,4 @@
-use Rattle.std.proofs.Common.{List, take, add-one, arith, subst, sym}
-use Rattle.tb_items.specs.declared.item.BenchItem.{BenchItem}
-use Rattle.tb_refusals.specs.Views.{context_of, HasSeen}
+use Rattle.tb_refusals.proofs.Common.{List, take, add-one, arith, subst, sym, BenchItem, context_of, HasSeen}
 use Rattle.tb_refusals.proofs.Firsts.{take_more, faultless_more}
 use Rattle.tb_refusals.proofs.first.first_fault.Goals as goal
 

@@ -1,6 +1,4 @@
-use Rattle.std.proofs.Common.{take}
-use Rattle.tb_refusals.specs.Refusals.{AreFaultless}
-use Rattle.tb_refusals.specs.Views.{context_of, HasSeen}
+use Rattle.tb_refusals.proofs.Common.{take, AreFaultless, context_of, HasSeen}
 use Rattle.tb_refusals.proofs.first.first_fault.Given as goal
 
 abbrev pub invariant-loop-item : goal.invariant-loop-item

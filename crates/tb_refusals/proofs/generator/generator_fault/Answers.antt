@@ -1,11 +1,7 @@
-use Rattle.std.proofs.Common.{map, ap, ◌∙◌}
+use Rattle.tb_refusals.proofs.Common.{map, ap, ◌∙◌, names_of, Wrong, first_faults, context_of}
 use Rattle.vlog_syntax.specs.declared.expr.Expr.{Expr}
 use Rattle.vlog_meaning.specs.Answers.{least}
-use Rattle.vlog_meaning.specs.Scopes.{names_of}
-use Rattle.tb_faults.specs.declared.fault.BenchFault.TheVariants.{Wrong}
 use Rattle.tb_checks.specs.Expressions.{own_faults}
-use Rattle.tb_refusals.specs.Refusals.{first_faults}
-use Rattle.tb_refusals.specs.Views.{context_of}
 use Rattle.tb_refusals.proofs.generator.generator_fault.Goals as goal
 
 pub returns : goal.returns

@@ -1,7 +1,4 @@
-use Rattle.std.proofs.Common.{[], refl}
-use Rattle.tb_machine.specs.Nodes.{IsCode, tree_of}
-use Rattle.tb_machine.specs.Simulations.{IsSimulation, outcome, phases_of}
-use Rattle.tb_runner.specs.Simulated.{Simulated, setting, start}
+use Rattle.tb_runner.proofs.Common.{[], refl, IsCode, tree_of, IsSimulation, outcome, phases_of, Simulated, setting, start}
 use Rattle.tb_runner.proofs.Standing.{of_each, starts_so}
 use Rattle.tb_runner.proofs.transcribe.transcript.Goals as goal
 

@@ -1,12 +1,5 @@
-use Rattle.std.proofs.Common.{List, refl, ap, ◌∙◌}
-use Rattle.std.specs.Prelude.{slice_index}
-use Rattle.rand_pcg.specs.Lcg.{Lcg}
-use Rattle.vlog_meaning.specs.Scopes.{Names, Store, names_of, store_of}
-use Rattle.tb_machine.specs.declared.update.Update.{Update}
-use Rattle.tb_machine.specs.Worlds.{assigned}
+use Rattle.tb_settling.proofs.Common.{List, refl, ap, ◌∙◌, slice_index, Lcg, Names, Store, names_of, store_of, Update, assigned, all_fit, signals_fit, same_store}
 use Rattle.tb_assigns.specs.Updates.{updates}
-use Rattle.tb_assigns.proofs.Fitting.{all_fit}
-use Rattle.tb_evaluator.proofs.Served.{signals_fit, same_store}
 use Rattle.tb_evaluator.proofs.Evaluating.{updates_fit_scene}
 use Rattle.tb_settling.proofs.Sides.{sides_can}
 use Rattle.tb_settling.proofs.assign.evaluate_assign.Goals as goal

@@ -1,7 +1,4 @@
-use Rattle.std.proofs.Common.{Option, subst}
-use Rattle.vlog_meaning.specs.Scopes.{names_of}
-use Rattle.tb_plans.specs.declared.transfer.Transfer.{Transfer}
-use Rattle.tb_plans.specs.Transfers.{IsTransferOf, OfTransfer}
+use Rattle.tb_settling.proofs.Common.{Option, subst, names_of, Transfer, IsTransferOf, OfTransfer}
 use Rattle.tb_settling.proofs.Planning.{plan_fits, plan_applies}
 use Rattle.tb_settling.proofs.assign.settle_assign.Goals as goal
 

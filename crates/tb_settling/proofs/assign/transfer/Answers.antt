@@ -1,5 +1,4 @@
-use Rattle.std.proofs.Common.{sym, subst}
-use Rattle.tb_plans.specs.Transfers.{TransferFits}
+use Rattle.tb_settling.proofs.Common.{sym, subst, TransferFits}
 use Rattle.tb_settling.proofs.Planning.{copied_known, copied_wide, copied_applies}
 use Rattle.tb_settling.proofs.assign.transfer.Goals as goal
 

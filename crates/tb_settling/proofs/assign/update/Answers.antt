@@ -1,5 +1,4 @@
-use Rattle.std.proofs.Common.{List, ℕ, sym, subst}
-use Rattle.tb_plans.specs.Transfers.{TransferFits}
+use Rattle.tb_settling.proofs.Common.{List, ℕ, sym, subst, TransferFits}
 use Rattle.tb_settling.proofs.Planning.{one_fits, one_applies, none_applies}
 use Rattle.tb_settling.proofs.assign.update.Goals as goal
 

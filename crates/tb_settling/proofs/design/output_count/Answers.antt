@@ -1,5 +1,4 @@
-use Rattle.std.proofs.Common.{List, length, ap, ◌∙◌, arith}
-use Rattle.netlist_core.specs.declared.port.Port.{Port}
+use Rattle.tb_settling.proofs.Common.{List, length, ap, ◌∙◌, arith, Port}
 use Rattle.netlist_core.specs.declared.raw.RawNetlist.{RawNetlist}
 use Rattle.tb_settling.proofs.Showing.{outputs_few}
 use Rattle.tb_settling.proofs.design.output_count.Goals as goal

@@ -1,14 +1,5 @@
-use Rattle.std.proofs.Common.{◌≡◌, ℕ, ◌+◌, ◌<◌, ◌≤◌, List, ◌∷◌, length, drop, sym, ap, ◌∙◌, arith}
-use Rattle.std.proofs.lemmas.List.{length-map}
-use Rattle.netlist_core.specs.declared.bit.Bit.{Bit}
-use Rattle.netlist_core.specs.declared.port.Port.{Port}
-use Rattle.netlist_core.specs.Numbers.{number}
-use Rattle.netlist_core.specs.Runs.{bits_at, plain, shown, values}
-use Rattle.cycle_sim.specs.Simulated.{settled_nets}
-use Rattle.tb_machine.specs.declared.update.Update.{Update}
-use Rattle.tb_machine.specs.Worlds.{World, assigned}
-use Rattle.tb_settling.specs.Settling.{whole_updates}
-use Rattle.tb_settling.specs.Nodes.{whole_update}
+use Rattle.tb_settling.proofs.Common.{◌≡◌, ℕ, ◌+◌, ◌<◌, ◌≤◌, List, ◌∷◌, length, drop, sym, ap, ◌∙◌, arith, length-map, Bit, Port, number, bits_at, plain, shown, values, settled_nets, Update, World}
+use Rattle.tb_settling.proofs.Common.{assigned, whole_updates, whole_update}
 use Rattle.tb_settling.proofs.Showing.{drop_whole, whole_past, ports_long}
 use Rattle.tb_settling.proofs.design.show_all.Goals as goal
 

@@ -1,8 +1,4 @@
-use Rattle.std.proofs.Common.{◌≡◌, drop}
-use Rattle.netlist_core.specs.Runs.{bits_at, plain, shown}
-use Rattle.cycle_sim.specs.Simulated.{settled_nets}
-use Rattle.tb_machine.specs.Worlds.{assigned}
-use Rattle.tb_settling.specs.Settling.{whole_updates}
+use Rattle.tb_settling.proofs.Common.{◌≡◌, drop, bits_at, plain, shown, settled_nets, assigned, whole_updates}
 use Rattle.tb_settling.proofs.design.show_all.Given as goal
 
 abbrev pub invariant-loop-port : goal.invariant-loop-port

@@ -1,4 +1,4 @@
-use Rattle.vlog_meaning.specs.Scopes.{names_of}
+use Rattle.tb_settling.proofs.Common.{names_of}
 use Rattle.tb_settling.proofs.Scenes.{store_is}
 use Rattle.tb_settling.proofs.pass.has_store.Goals as goal
 

@@ -1,7 +1,4 @@
-use Rattle.std.proofs.Common.{◌≡◌, ℕ, List, length, refl, sym, ap, ◌∙◌, arith}
-use Rattle.cycle_sim.specs.Simulated.{settled_nets}
-use Rattle.vlog_meaning.specs.Scopes.{names_of}
-use Rattle.tb_settling.specs.Nodes.{situation}
+use Rattle.tb_settling.proofs.Common.{◌≡◌, ℕ, List, length, refl, sym, ap, ◌∙◌, arith, settled_nets, names_of, situation}
 use Rattle.tb_settling.proofs.Ending.{settles}
 use Rattle.tb_settling.proofs.Passing.{none_settled}
 use Rattle.tb_settling.proofs.Turning.{first_ports, first_shows, still_signals, still_entered, still_shown, place_inside, plan_inside, has_side, has_plan, turned}

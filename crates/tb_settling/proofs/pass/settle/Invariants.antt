@@ -1,4 +1,4 @@
-use Rattle.vlog_meaning.specs.Scopes.{names_of}
+use Rattle.tb_settling.proofs.Common.{names_of}
 use Rattle.tb_settling.proofs.Turning.{Passed}
 use Rattle.tb_settling.proofs.pass.settle.Given as goal
 

@@ -1,5 +1,4 @@
-use Rattle.std.proofs.Common.{◌+◌, arith}
-use Rattle.tb_machine.specs.Phases.{Finish, Limit}
+use Rattle.tb_turns.proofs.Common.{◌+◌, arith, Finish, Limit}
 use Rattle.tb_turns.proofs.Endings.{last_within}
 use Rattle.tb_turns.proofs.running.run_to.Goals as goal
 

@@ -1,6 +1,4 @@
-use Rattle.std.proofs.Common.{◌≡◌}
-use Rattle.tb_machine.specs.Phases.{Setting, State}
-use Rattle.tb_turns.specs.Reached.{IsAt}
+use Rattle.tb_turns.proofs.Common.{◌≡◌, Setting, State, IsAt}
 use Rattle.tb_turns.proofs.running.run_to.Given as goal
 
 abbrev pub invariant-loop-phase : goal.invariant-loop-phase

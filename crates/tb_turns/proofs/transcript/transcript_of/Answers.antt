@@ -1,5 +1,4 @@
-use Rattle.std.proofs.Common.{◌≡◌, ◌+◌, ◌*◌, refl, sym, ◌∙◌}
-use Rattle.tb_turns.specs.Reached.{IsAt}
+use Rattle.tb_turns.proofs.Common.{◌≡◌, ◌+◌, ◌*◌, refl, sym, ◌∙◌, IsAt}
 use Rattle.tb_turns.proofs.Endings.{told}
 use Rattle.tb_turns.proofs.transcript.transcript_of.Goals as goal
 

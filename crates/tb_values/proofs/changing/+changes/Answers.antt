@@ -1,5 +1,4 @@
-use Rattle.std.proofs.Common.{add-one, arith}
-use Rattle.tb_values.specs.Draws.{changes}
+use Rattle.tb_values.proofs.Common.{add-one, arith, changes}
 use Rattle.tb_values.proofs.Lists.{any_more}
 use Rattle.tb_values.proofs.changing.+changes.Goals as goal
 

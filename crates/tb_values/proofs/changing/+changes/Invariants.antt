@@ -1,5 +1,4 @@
-use Rattle.std.proofs.Common.{◌≡◌, map, take}
-use Rattle.tb_values.specs.Draws.{any_of, changes}
+use Rattle.tb_values.proofs.Common.{◌≡◌, map, take, any_of, changes}
 use Rattle.tb_values.proofs.changing.+changes.Given as goal
 
 abbrev pub invariant-any_changes-loop-expr : goal.invariant-any_changes-loop-expr

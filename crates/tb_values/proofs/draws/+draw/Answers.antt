@@ -1,9 +1,7 @@
-use Rattle.std.proofs.Common.{refl, arith, sym, ◌∙◌}
+use Rattle.tb_values.proofs.Common.{refl, arith, sym, ◌∙◌, function_of, senses, all_drawn}
 use Rattle.std.proofs.lemmas.Result.{IfOk-weaker}
-use Rattle.vlog_meaning.specs.Functions.{function_of}
-use Rattle.vlog_meaning.specs.Senses.{senses}
-use Rattle.tb_values.specs.Draws.{all_drawn}
-use Rattle.tb_values.proofs.Drawing.{number_says, name_says, bit_select_says, part_select_says, indexed_part_select_says, parenthesized_says, unary_says, binary_says, conditional_says, concatenation_says, multiple_concatenation_says, call_says, call_with, ahead_next, ahead_end}
+use Rattle.tb_values.proofs.Drawing.{number_says, name_says, bit_select_says, part_select_says, indexed_part_select_says, parenthesized_says, unary_says, binary_says, conditional_says}
+use Rattle.tb_values.proofs.Drawing.{concatenation_says, multiple_concatenation_says, call_says, call_with, ahead_next, ahead_end}
 use Rattle.tb_values.proofs.draws.+draw.Goals as goal
 
 pub draw-returns-in-Number : goal.draw-returns-in-Number

@@ -1,7 +1,4 @@
-use Rattle.std.proofs.Common.{◌≡◌, map, drop}
-use Rattle.vlog_meaning.specs.Scopes.{Names}
-use Rattle.vlog_meaning.specs.Senses.{senses}
-use Rattle.tb_values.specs.Draws.{drawn, all_drawn}
+use Rattle.tb_values.proofs.Common.{◌≡◌, map, drop, Names, senses, drawn, all_drawn}
 use Rattle.tb_values.proofs.Drawing.{ahead}
 use Rattle.tb_values.proofs.draws.+draw.Given as goal
 

@@ -1,5 +1,4 @@
-use Rattle.std.proofs.Common.{refl, ◌∙◌}
-use Rattle.vlog_meaning.specs.Functions.{function_of}
+use Rattle.tb_values.proofs.Common.{refl, ◌∙◌, function_of}
 use Rattle.tb_values.proofs.Drawing.{bare_says}
 use Rattle.tb_values.proofs.draws.draw_bare.Goals as goal
 

@@ -1,5 +1,4 @@
-use Rattle.std.proofs.Common.{sym, ◌∙◌}
-use Rattle.vlog_meaning.specs.Scopes.{names_of, store_of}
+use Rattle.tb_values.proofs.Common.{sym, ◌∙◌, names_of, store_of}
 use Rattle.tb_values.proofs.Evaluating.{made_whole, made_context, same_value}
 use Rattle.tb_values.proofs.evaluation.evaluate.Goals as goal
 

@@ -1,5 +1,4 @@
-use Rattle.std.proofs.Common.{◌≡◌, take}
-use Rattle.tb_wired.specs.Wired.{places_of}
+use Rattle.tb_wired.proofs.Common.{◌≡◌, take, places_of}
 use Rattle.tb_wired.proofs.places.places_of.Given as goal
 
 abbrev pub invariant-loop-item : goal.invariant-loop-item

@@ -1,10 +1,4 @@
-use Rattle.std.proofs.Common.{List, sym, subst}
-use Rattle.std.specs.List.{All}
-use Rattle.vlog_meaning.specs.Scopes.{names_of}
-use Rattle.tb_nets.specs.declared.node.NetNode.{NetNode}
-use Rattle.tb_nets.specs.declared.nets.Netted.TheVariants.{Ready, Loop}
-use Rattle.tb_nets.specs.Nets.{wiring, IsSided}
-use Rattle.tb_nets.specs.Netted.{IsNetted}
+use Rattle.tb_wired.proofs.Common.{List, sym, subst, All, names_of, NetNode, Ready, Loop, wiring, IsSided, IsNetted}
 use Rattle.tb_wired.proofs.Placed.{loop_inside}
 use Rattle.tb_wired.proofs.Wiring.{are_sided, are_wired}
 use Rattle.tb_wired.proofs.wired.wire.Goals as goal

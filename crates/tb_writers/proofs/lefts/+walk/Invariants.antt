@@ -1,4 +1,4 @@
-use Rattle.std.proofs.Common.{◌≡◌, ◌++◌, map, drop}
+use Rattle.tb_writers.proofs.Common.{◌≡◌, ◌++◌, map, drop}
 use Rattle.tb_writers.specs.Lefts.{joined, stmt_lefts, case_lefts}
 use Rattle.tb_writers.proofs.lefts.+walk.Given as goal
 

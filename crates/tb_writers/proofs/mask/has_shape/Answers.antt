@@ -1,5 +1,4 @@
-use Rattle.vlog_meaning.specs.Scopes.{names_of}
-use Rattle.vlog_meaning.specs.Senses.{sense}
+use Rattle.tb_writers.proofs.Common.{names_of, sense}
 use Rattle.tb_writers.proofs.Parts.{without_fault, with_fault}
 use Rattle.tb_writers.proofs.mask.has_shape.Goals as goal
 

@@ -1,7 +1,4 @@
-use Rattle.std.proofs.Common.{sym, ◌∙◌}
-use Rattle.std.proofs.lemmas.Result.{IfOk-weaker}
-use Rattle.vlog_meaning.specs.Scopes.{names_of}
-use Rattle.signal_masks.specs.Masks.{bits_in}
+use Rattle.tb_writers.proofs.Common.{sym, ◌∙◌, IfOk-weaker, names_of, bits_in}
 use Rattle.tb_writers.proofs.Parts.{told_fits, writes_itself, writes_other}
 use Rattle.tb_writers.proofs.mask.part_masks.Goals as goal
 

@@ -1,6 +1,4 @@
-use Rattle.std.proofs.lemmas.Result.{IfOk-weaker}
-use Rattle.vlog_meaning.specs.Scopes.{names_of}
-use Rattle.signal_masks.specs.Masks.{bits_in}
+use Rattle.tb_writers.proofs.Common.{IfOk-weaker, names_of, bits_in}
 use Rattle.tb_writers.proofs.Parts.{name_written}
 use Rattle.tb_writers.proofs.mask.untold_masks.Goals as goal
 

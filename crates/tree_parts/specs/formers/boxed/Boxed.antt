@@ -22,6 +22,8 @@ use Rattle.tree_parts.specs.declared.boxed.Boxed.TheView.{view, invariant}
 use Rattle.tree_parts.specs.contracts.boxed.Boxed as C
 use Rattle.tree_parts.specs.contracts.boxed.Boxed.TheInside as I
 
+-- For proofs alone.
+
 abbrev pub the_former : Former {0} → Former {0}
 the_former g = g
 

@@ -1,8 +1,4 @@
-use Rattle.vlog_meaning.specs.Senses.{own}
-use Rattle.vlog_meaning.proofs.Steps.{sense_name, sense_number}
-use Rattle.vlog_effects.specs.Expressions.{value, width_of, is_signed_of, bound_of}
-use Rattle.vlog_effects.specs.LeftSides.{select_base, select_width}
-use Rattle.vlog_effects.specs.Examples.{a, b, i, w, names, named}
+use Rattle.vlog_effects.proofs.Common.{own, sense_name, sense_number, value, width_of, is_signed_of, bound_of, select_base, select_width, a, b, i, w, names, named}
 use Rattle.vlog_effects.proofs.Variants.{steps-block}
 use Rattle.vlog_effects.proofs.Running.{steps-blocking, steps-nonblocking}
 use Rattle.vlog_effects.proofs.Folds.{parts-name, parts-bit, parts-range, parts-indexed, parts-concatenation}

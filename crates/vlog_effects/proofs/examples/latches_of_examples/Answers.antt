@@ -1,8 +1,5 @@
-use Rattle.vlog_meaning.specs.Senses.{own}
-use Rattle.vlog_meaning.proofs.Steps.{sense_name, sense_number, sense_part_select, sense_unary, sense_binary}
-use Rattle.vlog_effects.specs.Expressions.{value, width_of, is_signed_of, is_constant, reads, bound_of}
-use Rattle.vlog_effects.specs.LeftSides.{select_base, select_width}
-use Rattle.vlog_effects.specs.Examples.{a, b, i, w, y, names, named}
+use Rattle.vlog_effects.proofs.Common.{own, sense_name, sense_number, sense_part_select, sense_unary, sense_binary, value, width_of, is_signed_of, is_constant, reads, bound_of, select_base}
+use Rattle.vlog_effects.proofs.Common.{select_width, a, b, i, w, y, names, named}
 use Rattle.vlog_effects.proofs.Variants.{steps-block, steps-conditional, steps-case}
 use Rattle.vlog_effects.proofs.Running.{steps-blocking}
 use Rattle.vlog_effects.proofs.Folds.{parts-name, parts-bit, parts-range, dont_care-number, keeps-name, keeps-part, keeps-unary, keeps-binary, steps-item}

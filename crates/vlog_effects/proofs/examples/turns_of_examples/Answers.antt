@@ -1,6 +1,4 @@
-use Rattle.vlog_meaning.proofs.Steps.{sense_name, sense_number}
-use Rattle.vlog_effects.specs.Expressions.{value, width_of, is_signed_of, is_constant}
-use Rattle.vlog_effects.specs.Examples.{a, b, i, names, named}
+use Rattle.vlog_effects.proofs.Common.{sense_name, sense_number, value, width_of, is_signed_of, is_constant, a, b, i, names, named}
 use Rattle.vlog_effects.proofs.Variants.{steps-case}
 use Rattle.vlog_effects.proofs.Running.{steps-blocking}
 use Rattle.vlog_effects.proofs.Reversal.{loop-reverses}

@@ -1,5 +1,4 @@
-use Rattle.std.proofs.Common.{◌≡◌, ◌≤◌, drop}
-use Rattle.vlog_expand.specs.Conditions.{after_part, after_part_from}
+use Rattle.vlog_expand.proofs.Common.{◌≡◌, ◌≤◌, drop, after_part, after_part_from}
 use Rattle.vlog_expand.proofs.conditions.after_part.Given as goal
 
 abbrev pub invariant-loop-i : goal.invariant-loop-i

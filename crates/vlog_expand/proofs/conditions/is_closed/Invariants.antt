@@ -1,5 +1,4 @@
-use Rattle.std.proofs.Common.{◌≡◌, ◌≤◌, drop}
-use Rattle.vlog_expand.specs.Conditions.{is_closed, is_closed_from}
+use Rattle.vlog_expand.proofs.Common.{◌≡◌, ◌≤◌, drop, is_closed, is_closed_from}
 use Rattle.vlog_expand.proofs.conditions.is_closed.Given as goal
 
 abbrev pub invariant-loop-token : goal.invariant-loop-token

@@ -1,6 +1,5 @@
-use Rattle.std.proofs.Common.{◌≡◌, length, rules}
+use Rattle.vlog_expand.proofs.Common.{◌≡◌, length, rules, definitions_of}
 use Rattle.vlog_expand.proofs.Coming.{comes-end}
-use Rattle.vlog_expand.specs.Definitions.{definitions_of}
 use Rattle.vlog_expand.proofs.file.read_file.Goals as goal
 
 pub returns-clause-ok : goal.returns-clause-ok

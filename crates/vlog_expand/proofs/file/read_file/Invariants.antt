@@ -1,6 +1,4 @@
-use Rattle.std.proofs.Common.{length}
-use Rattle.vlog_expand.specs.Files.{LeadsOn}
-use Rattle.vlog_expand.specs.Moves.{state_of}
+use Rattle.vlog_expand.proofs.Common.{length, LeadsOn, state_of}
 use Rattle.vlog_expand.proofs.file.read_file.Given as goal
 
 abbrev pub invariant-loop-rest : goal.invariant-loop-rest

@@ -1,7 +1,4 @@
-use Rattle.std.proofs.Common.{◌≡◌, ◌∷◌, true, false, rules}
-use Rattle.std.proofs.lemmas.Result.{err_from_is_err_and}
-use Rattle.vlog_expand.specs.Words.{is_shown, word_of}
-use Rattle.vlog_expand.specs.Definitions.{definitions_of}
+use Rattle.vlog_expand.proofs.Common.{◌≡◌, ◌∷◌, true, false, rules, err_from_is_err_and, is_shown, word_of, definitions_of}
 use Rattle.vlog_expand.proofs.Coming.{leads-shown, leads-carried, shown-refused, carried-refused}
 use Rattle.vlog_expand.proofs.file.read_next.Goals as goal
 

@@ -1,5 +1,4 @@
-use Rattle.std.proofs.Common.{◌≡◌, ◌++◌, take, drop}
-use Rattle.vlog_expand.specs.Lines.{behind_line, rest_of_line}
+use Rattle.vlog_expand.proofs.Common.{◌≡◌, ◌++◌, take, drop, behind_line, rest_of_line}
 use Rattle.vlog_expand.proofs.lines.rest_of_line.Given as goal
 
 abbrev pub invariant-loop-i : goal.invariant-loop-i

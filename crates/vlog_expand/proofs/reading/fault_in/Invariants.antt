@@ -1,5 +1,4 @@
-use Rattle.std.proofs.Common.{◌≡◌, drop}
-use Rattle.vlog_expand.specs.Moves.{fault_in}
+use Rattle.vlog_expand.proofs.Common.{◌≡◌, drop, fault_in}
 use Rattle.vlog_expand.proofs.reading.fault_in.Given as goal
 
 abbrev pub invariant-loop-token : goal.invariant-loop-token

@@ -1,4 +1,4 @@
-use Rattle.std.proofs.Common.{sym, ◌∙◌, reverse}
+use Rattle.vlog_grammar.proofs.Common.{sym, ◌∙◌, reverse}
 use Rattle.vlog_grammar.proofs.Stack.{expand_more, work_less, expands_start}
 use Rattle.vlog_grammar.proofs.reader.expand.Goals as goal
 

@@ -1,6 +1,4 @@
-use Rattle.std.proofs.Common.{reverse}
-use Rattle.vlog_grammar.specs.Look.{work_of}
-use Rattle.vlog_grammar.specs.Machine.{ExpandsTo}
+use Rattle.vlog_grammar.proofs.Common.{reverse, work_of, ExpandsTo}
 use Rattle.vlog_grammar.proofs.reader.expand.Given as goal
 
 abbrev pub invariant-loop-symbol : goal.invariant-loop-symbol

@@ -1,12 +1,4 @@
-use Rattle.std.proofs.Common.{◌≡◌, Some, None, rules, sym, subst, refl}
-use denote.Enum.Bare.{same_true}
-use Rattle.vlog_syntax.specs.declared.feature.Feature.{Feature}
-use Rattle.vlog_grammar.specs.contracts.class.Class.{the_type}
-use Rattle.vlog_grammar.specs.declared.class.Class.{Class}
-use Rattle.vlog_grammar.specs.declared.step.Token.{Token}
-use Rattle.vlog_grammar.specs.declared.table.Symbol.{Symbol}
-use Rattle.vlog_grammar.specs.declared.table.Symbol.TheVariants.{Is, Refused}
-use Rattle.vlog_grammar.specs.Trees.{Fits}
+use Rattle.vlog_grammar.proofs.Common.{◌≡◌, Some, None, rules, sym, subst, refl, same_true, Feature, the_type, Class, Token, Symbol, Is, Refused, Fits}
 use Rattle.vlog_grammar.proofs.reader.fit.Goals as goal
 
 is_class : (s : Symbol) (t : Token) (c : Class) → s ≡ Is c → t.class ≡ c → Fits s t None

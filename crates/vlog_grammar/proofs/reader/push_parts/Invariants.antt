@@ -1,5 +1,4 @@
-use Rattle.std.proofs.Common.{◌≡◌, ◌++◌, reverse}
-use Rattle.vlog_grammar.specs.Grammar.{parts_of}
+use Rattle.vlog_grammar.proofs.Common.{◌≡◌, ◌++◌, reverse, parts_of}
 use Rattle.vlog_grammar.proofs.reader.push_parts.Given as goal
 
 -- the parts that are left stand before what is on the stack

@@ -1,8 +1,6 @@
-use Rattle.std.proofs.Common.{ap, ◌∙◌, reverse, arith, List, ◌++◌, length}
-use Rattle.vlog_grammar.specs.declared.table.Symbol.{Symbol}
-use Rattle.vlog_grammar.specs.Reading.{start}
-use Rattle.vlog_grammar.specs.declared.stop.Stop.TheVariants.{Unexpected}
-use Rattle.vlog_grammar.proofs.Stops.{unexpected_at, refused_at, taken_at, all_taken, unexpected_end, whole_read, not_asks, misfits, not_nothing, reaches_stack, fits_as, next_at, at_end, stopped_at, reaches_all}
+use Rattle.vlog_grammar.proofs.Common.{ap, ◌∙◌, reverse, arith, List, ◌++◌, length, Symbol, start, Unexpected}
+use Rattle.vlog_grammar.proofs.Stops.{unexpected_at, refused_at, taken_at, all_taken, unexpected_end, whole_read, not_asks, misfits, not_nothing, reaches_stack, fits_as, next_at, at_end, stopped_at}
+use Rattle.vlog_grammar.proofs.Stops.{reaches_all}
 use Rattle.vlog_grammar.proofs.reader.read.Goals as goal
 
 pub loop-at-init : goal.loop-at-init

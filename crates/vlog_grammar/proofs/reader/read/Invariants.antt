@@ -1,5 +1,4 @@
-use Rattle.std.proofs.Common.{reverse, take}
-use Rattle.vlog_grammar.specs.Machine.{Reaches}
+use Rattle.vlog_grammar.proofs.Common.{reverse, take, Reaches}
 use Rattle.vlog_grammar.proofs.reader.read.Given as goal
 
 abbrev pub invariant-loop-at : goal.invariant-loop-at

@@ -1,7 +1,5 @@
-use Rattle.std.proofs.Common.{◌≡◌, ℕ, ◌-◌, inr, refl, arith}
-use Rattle.vlog_syntax.specs.declared.feature.Feature.{Feature}
+use Rattle.vlog_grammar.proofs.Common.{◌≡◌, ℕ, ◌-◌, inr, refl, arith, Feature, first_of}
 use Rattle.vlog_syntax.specs.declared.feature.Feature.TheVariants as feature
-use Rattle.vlog_grammar.specs.Reading.{first_of}
 use Rattle.vlog_grammar.proofs.reader.refused.Goals as goal
 
 before : (x : Feature) (n m : ℕ) → x ≡ feature.Memory → m ≡ n - 1 → m ≡ first_of x n

@@ -1,5 +1,4 @@
-use Rattle.std.proofs.Common.{sym, ◌∙◌, arith}
-use Rattle.vlog_meaning.specs.Integers.{integer}
+use Rattle.vlog_meaning.proofs.Common.{sym, ◌∙◌, arith, integer}
 use Rattle.vlog_meaning.proofs.Rounds.{remainder_positive, not_zero}
 use Rattle.vlog_meaning.proofs.arithmetic.remainder.Goals as goal
 

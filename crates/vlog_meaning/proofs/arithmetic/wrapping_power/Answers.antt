@@ -1,4 +1,4 @@
-use Rattle.std.proofs.Common.{◌^◌, ◌∙◌, arith}
+use Rattle.vlog_meaning.proofs.Common.{◌^◌, ◌∙◌, arith}
 use Rattle.vlog_meaning.proofs.Rounds.{round_even, round_odd}
 use Rattle.vlog_meaning.proofs.arithmetic.wrapping_power.Goals as goal
 use Rattle.vlog_meaning.proofs.arithmetic.wrapping_power.Goals.{then-left-eq1, else-left-eq1}

@@ -1,9 +1,5 @@
-use Rattle.std.proofs.Common.{◌++◌, ◌∙◌, sym, ap, arith, add-one, List, take}
-use Rattle.vlog_syntax.specs.declared.expr.Expr.{Expr}
-use Rattle.vlog_meaning.specs.Integers.{natural}
-use Rattle.vlog_meaning.specs.Scopes.{names_of}
-use Rattle.vlog_meaning.specs.Senses.{Sense, sense, senses, name_faults, range_faults, sized, counted, all_faults, constant_faults, constant_integer, or_else}
-use Rattle.vlog_meaning.specs.Answers.{least}
+use Rattle.vlog_meaning.proofs.Common.{◌++◌, ◌∙◌, sym, ap, arith, add-one, List, take, Expr, natural, names_of, Sense, sense, senses, name_faults, range_faults, sized, counted, all_faults}
+use Rattle.vlog_meaning.proofs.Common.{constant_faults, constant_integer, or_else, least}
 use Rattle.vlog_meaning.proofs.Firsts.{faults_take}
 use Rattle.vlog_meaning.proofs.Refusals.{least_empty, pair_first, not_constant_first}
 use Rattle.vlog_meaning.proofs.Steps as step

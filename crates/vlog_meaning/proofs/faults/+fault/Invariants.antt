@@ -1,7 +1,4 @@
-use Rattle.std.proofs.Common.{◌≡◌, ◌+◌, ◌*◌, take}
-use Rattle.vlog_meaning.specs.Scopes.{names_of}
-use Rattle.vlog_meaning.specs.Senses.{senses, all_faults}
-use Rattle.vlog_meaning.specs.Answers.{least}
+use Rattle.vlog_meaning.proofs.Common.{◌≡◌, ◌+◌, ◌*◌, take, names_of, senses, all_faults, least}
 use Rattle.vlog_meaning.proofs.faults.+fault.Given as goal
 
 abbrev pub decreases-fault_in : goal.decreases-fault_in

@@ -1,5 +1,4 @@
-use Rattle.std.proofs.Common.{◌≡◌, ◌-◌, ◌+◌, ◌∙◌, sym, refl, arith}
-use Rattle.vlog_meaning.specs.Integers.{clog2_from}
+use Rattle.vlog_meaning.proofs.Common.{◌≡◌, ◌-◌, ◌+◌, ◌∙◌, sym, refl, arith, clog2_from}
 use Rattle.vlog_meaning.proofs.Powers.{power_fits}
 use Rattle.vlog_meaning.proofs.Joins.{clog2_more, clog2_there, clog2_begins}
 use Rattle.vlog_meaning.proofs.integer.clog2.Goals as goal

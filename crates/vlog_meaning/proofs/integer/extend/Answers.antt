@@ -1,4 +1,4 @@
-use Rattle.std.proofs.Common.{arith, ◌∙◌, sym}
+use Rattle.vlog_meaning.proofs.Common.{arith, ◌∙◌, sym}
 use Rattle.vlog_meaning.proofs.Powers.{power_le}
 use Rattle.vlog_meaning.proofs.Signs.{extended_negative, extended_positive}
 use Rattle.vlog_meaning.proofs.integer.extend.Goals as goal

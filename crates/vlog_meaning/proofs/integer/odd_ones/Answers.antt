@@ -1,4 +1,4 @@
-use Rattle.std.proofs.Common.{◌-◌, ◌+◌, arith, sym, ◌∙◌}
+use Rattle.vlog_meaning.proofs.Common.{◌-◌, ◌+◌, arith, sym, ◌∙◌}
 use Rattle.vlog_meaning.proofs.Rounds.{parity_round}
 use Rattle.vlog_meaning.proofs.integer.odd_ones.Goals as goal
 

@@ -1,4 +1,4 @@
-use Rattle.std.proofs.Common.{◌+◌, ◌*◌, ◌∙◌, sym, arith}
+use Rattle.vlog_meaning.proofs.Common.{◌+◌, ◌*◌, ◌∙◌, sym, arith}
 use Rattle.vlog_meaning.proofs.Powers.{power_le}
 use Rattle.vlog_meaning.proofs.Joins.{joined_fits, shifted_whole, times_more, times_le, repeated_more}
 use Rattle.vlog_meaning.proofs.integer.repeated.Goals as goal

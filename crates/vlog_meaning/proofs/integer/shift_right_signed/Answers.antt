@@ -1,4 +1,4 @@
-use Rattle.std.proofs.Common.{sym, ◌∙◌}
+use Rattle.vlog_meaning.proofs.Common.{sym, ◌∙◌}
 use Rattle.vlog_meaning.proofs.Signs.{halved_negative, halved_positive}
 use Rattle.vlog_meaning.proofs.integer.shift_right_signed.Goals as goal
 

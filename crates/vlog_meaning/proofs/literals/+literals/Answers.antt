@@ -1,6 +1,4 @@
-use Rattle.std.proofs.Common.{rules, arith, add-one}
-use Rattle.vlog_syntax.specs.declared.expr.Expr.TheViews.{the_lemmas}
-use Rattle.vlog_meaning.specs.Scopes.{names_of}
+use Rattle.vlog_meaning.proofs.Common.{rules, arith, add-one, the_lemmas, names_of}
 use Rattle.vlog_meaning.proofs.Same.{one_more}
 use Rattle.vlog_meaning.proofs.Whole.{whole_part, whole_indexed, whole_pair, whole_choice, whole_times, whole_arguments, element_whole}
 use Rattle.vlog_meaning.proofs.literals.+literals.Goals as goal

@@ -1,6 +1,4 @@
-use Rattle.std.proofs.Common.{◌≡◌, take}
-use Rattle.vlog_meaning.specs.Scopes.{names_of}
-use Rattle.vlog_meaning.specs.Senses.{senses}
+use Rattle.vlog_meaning.proofs.Common.{◌≡◌, take, names_of, senses}
 use Rattle.vlog_meaning.proofs.literals.+literals.Given as goal
 
 abbrev pub invariant-listed-loop-expr : goal.invariant-listed-loop-expr

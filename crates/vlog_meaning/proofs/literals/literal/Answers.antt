@@ -1,9 +1,5 @@
-use Rattle.std.proofs.Common.{subst, sym}
+use Rattle.vlog_meaning.proofs.Common.{subst, sym, Expr, IsLiteral, names_of, sense}
 use Rattle.std.proofs.lemmas.Result.{IfOk-weaker}
-use Rattle.vlog_syntax.specs.declared.expr.Expr.{Expr}
-use Rattle.vlog_meaning.specs.Literals.{IsLiteral}
-use Rattle.vlog_meaning.specs.Scopes.{names_of}
-use Rattle.vlog_meaning.specs.Senses.{sense}
 use Rattle.vlog_meaning.proofs.Same.{literal_number}
 use Rattle.vlog_meaning.proofs.literals.literal.Goals as goal
 

@@ -1,8 +1,5 @@
-use Rattle.std.proofs.Common.{◌∙◌, ap, refl}
-use Rattle.vlog_syntax.specs.declared.identifier.Identifier.{Identifier}
+use Rattle.vlog_meaning.proofs.Common.{◌∙◌, ap, refl, Identifier, names_of, sense}
 use Rattle.vlog_syntax.specs.declared.expr.Expr.TheVariants as v
-use Rattle.vlog_meaning.specs.Scopes.{names_of}
-use Rattle.vlog_meaning.specs.Senses.{sense}
 use Rattle.vlog_meaning.proofs.Same.{literal_part}
 use Rattle.vlog_meaning.proofs.Whole.{whole_part}
 use Rattle.vlog_meaning.proofs.literals.part_select.Goals as goal

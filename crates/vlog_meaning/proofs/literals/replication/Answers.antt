@@ -1,6 +1,5 @@
-use Rattle.std.proofs.Common.{refl}
+use Rattle.vlog_meaning.proofs.Common.{refl, names_of}
 use Rattle.vlog_syntax.specs.declared.expr.Expr.TheVariants as v
-use Rattle.vlog_meaning.specs.Scopes.{names_of}
 use Rattle.vlog_meaning.proofs.Same.{literal_times}
 use Rattle.vlog_meaning.proofs.Whole.{whole_times}
 use Rattle.vlog_meaning.proofs.literals.replication.Goals as goal

@@ -1,6 +1,4 @@
-use Rattle.std.proofs.Common.{ap, arith, add-one}
-use Rattle.vlog_meaning.specs.Scopes.{names_of}
-use Rattle.vlog_meaning.specs.declared.shapes.Shape.{Shape}
+use Rattle.vlog_meaning.proofs.Common.{ap, arith, add-one, names_of, Shape}
 use Rattle.vlog_meaning.proofs.Results.{total_take}
 use Rattle.vlog_meaning.proofs.Whole.{element_whole}
 use Rattle.vlog_meaning.proofs.once.sum_of_widths.Goals as goal

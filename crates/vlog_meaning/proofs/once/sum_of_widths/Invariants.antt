@@ -1,6 +1,4 @@
-use Rattle.std.proofs.Common.{◌≡◌, ◌≤◌, ◌*◌, take}
-use Rattle.vlog_meaning.specs.Scopes.{names_of}
-use Rattle.vlog_meaning.specs.Senses.{senses, total_width}
+use Rattle.vlog_meaning.proofs.Common.{◌≡◌, ◌≤◌, ◌*◌, take, names_of, senses, total_width}
 use Rattle.vlog_meaning.proofs.once.sum_of_widths.Given as goal
 
 abbrev pub invariant-loop-part : goal.invariant-loop-part

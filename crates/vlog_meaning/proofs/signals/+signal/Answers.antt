@@ -1,9 +1,4 @@
-use Rattle.std.proofs.Common.{◌++◌, ◌∙◌, sym, ap, arith, add-one, List, take}
-use Rattle.vlog_syntax.specs.declared.expr.Expr.{Expr}
-use Rattle.vlog_meaning.specs.Functions.{function_of}
-use Rattle.vlog_meaning.specs.Scopes.{names_of}
-use Rattle.vlog_meaning.specs.Senses.{Sense, sense, senses, name_signals, call_signals, all_signals}
-use Rattle.vlog_meaning.specs.Answers.{least}
+use Rattle.vlog_meaning.proofs.Common.{◌++◌, ◌∙◌, sym, ap, arith, add-one, List, take, Expr, function_of, names_of, Sense, sense, senses, name_signals, call_signals, all_signals, least}
 use Rattle.vlog_meaning.proofs.Firsts.{signals_take}
 use Rattle.vlog_meaning.proofs.Refusals.{least_empty, pair_first}
 use Rattle.vlog_meaning.proofs.Steps as step

@@ -1,7 +1,4 @@
-use Rattle.std.proofs.Common.{◌≡◌, take}
-use Rattle.vlog_meaning.specs.Scopes.{names_of}
-use Rattle.vlog_meaning.specs.Senses.{senses, all_signals}
-use Rattle.vlog_meaning.specs.Answers.{least}
+use Rattle.vlog_meaning.proofs.Common.{◌≡◌, take, names_of, senses, all_signals, least}
 use Rattle.vlog_meaning.proofs.signals.+signal.Given as goal
 
 abbrev pub invariant-signal_in_all-loop-expr : goal.invariant-signal_in_all-loop-expr

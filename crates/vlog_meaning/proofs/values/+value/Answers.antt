@@ -1,15 +1,10 @@
-use Rattle.std.proofs.Common.{ℤ, List, ◌≡◌, ◌+◌, ◌*◌, ◌<◌, ◌≤◌, ◌^◌, rules, ap, ◌∙◌, arith, add-one, subst, refl, ℕ, take, drop, suc}
-use Rattle.vlog_syntax.specs.declared.expr.Expr.{Expr}
-use Rattle.vlog_meaning.specs.Integers.{natural, bound_integer}
-use Rattle.vlog_meaning.specs.Scopes.{names_of, store_of}
-use Rattle.vlog_meaning.specs.Senses.{Sense, IsContext, sense, senses, own, total_width, joined, constant_integer, part_width}
-use Rattle.vlog_meaning.specs.declared.shapes.Shape.{Shape}
+use Rattle.vlog_meaning.proofs.Common.{ℤ, List, ◌≡◌, ◌+◌, ◌*◌, ◌<◌, ◌≤◌, ◌^◌, rules, ap, ◌∙◌, arith, add-one, subst, refl, ℕ, take, drop, suc, Expr, natural, bound_integer, names_of, store_of, Sense}
+use Rattle.vlog_meaning.proofs.Common.{IsContext, sense, senses, own, total_width, joined, constant_integer, part_width, Shape, the_lemmas}
 use Rattle.vlog_meaning.proofs.Powers.{power_le}
 use Rattle.vlog_meaning.proofs.Joins.{joined_fits, shifted_whole}
 use Rattle.vlog_meaning.proofs.Contexts.{window_fits}
 use Rattle.vlog_meaning.proofs.Whole.{whole_part, whole_indexed, whole_pair, whole_choice, whole_join, whole_times, whole_call, element_whole}
 use Rattle.vlog_meaning.proofs.Results.{fits_own, left_at, right_at, pair_result, unary_result, yes_at, no_at, parts_drop, total_take, total_parts, joined_step}
-use Rattle.vlog_syntax.specs.declared.expr.Expr.TheViews.{the_lemmas}
 use Rattle.vlog_meaning.proofs.Steps as step
 use Rattle.vlog_meaning.proofs.values.+value.Goals as goal
 

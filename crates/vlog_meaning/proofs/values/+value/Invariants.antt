@@ -1,6 +1,4 @@
-use Rattle.std.proofs.Common.{◌≡◌, ◌+◌, ◌*◌, ◌<◌, ◌^◌, drop, take}
-use Rattle.vlog_meaning.specs.Scopes.{names_of, store_of}
-use Rattle.vlog_meaning.specs.Senses.{senses, total_width, joined}
+use Rattle.vlog_meaning.proofs.Common.{◌≡◌, ◌+◌, ◌*◌, ◌<◌, ◌^◌, drop, take, names_of, store_of, senses, total_width, joined}
 use Rattle.vlog_meaning.proofs.values.+value.Given as goal
 
 abbrev pub decreases-shape_of : goal.decreases-shape_of

@@ -1,10 +1,5 @@
-use Rattle.std.proofs.Common.{◌++◌, ◌∙◌, rules, sym, ap, arith, refl, subst, add-one, List, take}
-use Rattle.vlog_syntax.specs.declared.expr.Expr.{Expr}
-use Rattle.vlog_syntax.specs.declared.expr.Expr.TheViews.{the_lemmas}
-use Rattle.vlog_meaning.specs.declared.fault.Cause.TheVariants.{DivideByZero}
-use Rattle.vlog_meaning.specs.Scopes.{names_of, nothing}
-use Rattle.vlog_meaning.specs.Senses.{Sense, sense, senses, own_zeros, all_zeros, IsContext}
-use Rattle.vlog_meaning.specs.Answers.{least_at}
+use Rattle.vlog_meaning.proofs.Common.{◌++◌, ◌∙◌, rules, sym, ap, arith, refl, subst, add-one, List, take, Expr, the_lemmas, DivideByZero, names_of, nothing, Sense, sense, senses, own_zeros}
+use Rattle.vlog_meaning.proofs.Common.{all_zeros, IsContext, least_at}
 use Rattle.vlog_meaning.proofs.Contexts.{own_context}
 use Rattle.vlog_meaning.proofs.Divisions.{operand_at, operand_zeros, operator_zeros}
 use Rattle.vlog_meaning.proofs.Firsts.{least_nil, pair_of, zeros_take}

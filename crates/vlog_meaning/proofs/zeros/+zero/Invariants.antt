@@ -1,8 +1,4 @@
-use Rattle.std.proofs.Common.{◌≡◌, ◌+◌, ◌*◌, take}
-use Rattle.vlog_meaning.specs.declared.fault.Cause.TheVariants.{DivideByZero}
-use Rattle.vlog_meaning.specs.Scopes.{names_of}
-use Rattle.vlog_meaning.specs.Senses.{senses, all_zeros}
-use Rattle.vlog_meaning.specs.Answers.{least_at}
+use Rattle.vlog_meaning.proofs.Common.{◌≡◌, ◌+◌, ◌*◌, take, DivideByZero, names_of, senses, all_zeros, least_at}
 use Rattle.vlog_meaning.proofs.zeros.+zero.Given as goal
 
 abbrev pub decreases-zero_in : goal.decreases-zero_in

@@ -1,5 +1,4 @@
-use Rattle.std.proofs.Common.{◌≡◌, ◌++◌, drop}
-use Rattle.vlog_parse.specs.Classes.{classes_from, classes}
+use Rattle.vlog_parse.proofs.Common.{◌≡◌, ◌++◌, drop, classes_from, classes}
 use Rattle.vlog_parse.proofs.classes.classes.Given as goal
 
 abbrev pub invariant-loop-at : goal.invariant-loop-at

@@ -1,5 +1,4 @@
-use Rattle.std.proofs.Common.{◌≡◌, length}
-use Rattle.vlog_parse.specs.Nesting.{closed}
+use Rattle.vlog_parse.proofs.Common.{◌≡◌, length, closed}
 use Rattle.vlog_parse.proofs.nesting.closed.Given as goal
 
 abbrev pub invariant-loop-row : goal.invariant-loop-row

@@ -1,5 +1,4 @@
-use Rattle.std.proofs.Common.{◌≡◌, ◌≤◌, drop, []}
-use Rattle.vlog_parse.specs.Nesting.{walked, first_deep, outermost}
+use Rattle.vlog_parse.proofs.Common.{◌≡◌, ◌≤◌, drop, [], walked, first_deep, outermost}
 use Rattle.vlog_parse.proofs.nesting.too_deep.Given as goal
 
 abbrev pub invariant-loop-step : goal.invariant-loop-step

@@ -1,4 +1,4 @@
-use Rattle.std.proofs.Common.{◌≡◌, drop, map}
+use Rattle.vlog_parse.proofs.Common.{◌≡◌, drop, map}
 use Rattle.vlog_parse.specs.Words.{lookup, plain}
 use Rattle.vlog_parse.proofs.words.lookup.Given as goal
 

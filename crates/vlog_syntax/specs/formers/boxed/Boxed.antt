@@ -22,6 +22,8 @@ use Rattle.vlog_syntax.specs.declared.boxed.Boxed.TheView.{view, invariant}
 use Rattle.vlog_syntax.specs.contracts.boxed.Boxed as C
 use Rattle.vlog_syntax.specs.contracts.boxed.Boxed.TheInside as I
 
+-- For proofs alone.
+
 abbrev pub the_former : Former {0} → Former {0}
 the_former g = g
 

@@ -19,6 +19,8 @@ use Rattle.vlog_syntax.specs.declared.listed.Listed.TheView.{view, invariant}
 use Rattle.vlog_syntax.specs.contracts.listed.Listed as C
 use Rattle.vlog_syntax.specs.contracts.listed.Listed.TheInside as I
 
+-- For proofs alone.
+
 abbrev pub the_former : Former {0} → Former {0}
 the_former g = list g
 

@@ -1,4 +1,4 @@
-use Rattle.std.proofs.Common.{◌≡◌, ℕ, ◌+◌, ◌<◌, get_or}
+use Rattle.vlog_token.proofs.Common.{◌≡◌, ℕ, ◌+◌, ◌<◌, get_or}
 use Rattle.vlog_token.proofs.gap.first_close.Given as goal
 
 abbrev pub invariant-loop-slash : goal.invariant-loop-slash

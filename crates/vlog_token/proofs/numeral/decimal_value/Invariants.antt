@@ -1,5 +1,4 @@
-use Rattle.std.proofs.Common.{◌≡◌, ◌^◌, min, take}
-use Rattle.vlog_token.specs.Numbers.{decimal_value}
+use Rattle.vlog_token.proofs.Common.{◌≡◌, ◌^◌, min, take, decimal_value}
 use Rattle.vlog_token.proofs.numeral.decimal_value.Given as goal
 
 abbrev pub invariant-loop-b : goal.invariant-loop-b

@@ -1,8 +1,4 @@
-use Rattle.std.proofs.Common.{◌%◌, ◌^◌, sym, ap, ◌∙◌}
-use Rattle.std.specs.List.{list_all}
-use Rattle.std.proofs.lemmas.List.{take_rest}
-use Rattle.vlog_token.specs.Bytes.{is_digit_part}
-use Rattle.vlog_token.specs.Numbers.{filled, positional, x_digit, z_digit}
+use Rattle.vlog_token.proofs.Common.{◌%◌, ◌^◌, sym, ap, ◌∙◌, list_all, take_rest, is_digit_part, filled, positional, x_digit, z_digit}
 use Rattle.vlog_token.proofs.NumberLemmas.{digits_are}
 use Rattle.vlog_token.proofs.numeral.digits_number.Goals as goal
 

@@ -1,4 +1,4 @@
-use Rattle.vlog_token.specs.Numbers.{plane_digit, positional}
+use Rattle.vlog_token.proofs.Common.{plane_digit, positional}
 use Rattle.vlog_token.proofs.NumberLemmas.{cut_after}
 use Rattle.vlog_token.proofs.numeral.plane_bits.Goals as goal
 

@@ -1,5 +1,4 @@
-use Rattle.std.proofs.Common.{◌+◌, ◌*◌, ◌%◌, ◌^◌, ap, ◌∙◌}
-use Rattle.vlog_token.specs.Numbers.{plane_digit}
+use Rattle.vlog_token.proofs.Common.{◌+◌, ◌*◌, ◌%◌, ◌^◌, ap, ◌∙◌, plane_digit}
 use Rattle.vlog_token.proofs.NumberLemmas.{wrap_digit, wrap_skip}
 use Rattle.vlog_token.proofs.numeral.wrapped.Goals as goal
 use Rattle.vlog_token.proofs.numeral.wrapped.Goals.{then-b-ne95, else-b-ne95}

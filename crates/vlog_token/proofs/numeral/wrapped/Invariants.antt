@@ -1,5 +1,4 @@
-use Rattle.std.proofs.Common.{◌≡◌, ◌^◌, ◌%◌, take}
-use Rattle.vlog_token.specs.Numbers.{plane_digit, positional}
+use Rattle.vlog_token.proofs.Common.{◌≡◌, ◌^◌, ◌%◌, take, plane_digit, positional}
 use Rattle.vlog_token.proofs.numeral.wrapped.Given as goal
 
 abbrev pub invariant-loop-b : goal.invariant-loop-b

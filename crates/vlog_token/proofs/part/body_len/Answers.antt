@@ -1,6 +1,4 @@
-use Rattle.std.proofs.Common.{sym, subst}
-use Rattle.vlog_token.specs.Kinds.{IsQuoted}
-use Rattle.vlog_token.specs.Reading.{FindsFront, IsBodyOf}
+use Rattle.vlog_token.proofs.Common.{sym, subst, IsQuoted, FindsFront, IsBodyOf}
 use Rattle.vlog_token.proofs.StringFronts.{string_front}
 use Rattle.vlog_token.proofs.part.body_len.Goals as goal
 

@@ -1,8 +1,4 @@
-use Rattle.std.proofs.Common.{◌∙◌, ap, subst}
-use Rattle.std.specs.List.{prefix_len}
-use Rattle.std.proofs.lemmas.List.{take_rest}
-use Rattle.vlog_token.specs.Bytes.{is_in_line}
-use Rattle.vlog_token.specs.Reading.{IsFirstClose}
+use Rattle.vlog_token.proofs.Common.{◌∙◌, ap, subst, prefix_len, take_rest, is_in_line, IsFirstClose}
 use Rattle.vlog_token.proofs.GapLemmas.{block_gap, line_gap}
 use Rattle.vlog_token.proofs.part.comment_at.Goals as goal
 

@@ -1,6 +1,4 @@
-use Rattle.std.proofs.Common.{sym, ◌∙◌, subst, arith}
-use Rattle.vlog_token.specs.Kinds.{IsName}
-use Rattle.vlog_token.specs.Reading.{IsLongestFront}
+use Rattle.vlog_token.proofs.Common.{sym, ◌∙◌, subst, arith, IsName, IsLongestFront}
 use Rattle.vlog_token.proofs.Fronts.{name_front}
 use Rattle.vlog_token.proofs.part.name_len.Goals as goal
 

@@ -1,6 +1,4 @@
-use Rattle.std.proofs.Common.{sym, subst, arith}
-use Rattle.vlog_token.specs.Kinds.{IsSolid}
-use Rattle.vlog_token.specs.Reading.{IsLongestFront}
+use Rattle.vlog_token.proofs.Common.{sym, subst, arith, IsSolid, IsLongestFront}
 use Rattle.vlog_token.proofs.Fronts.{solid_front}
 use Rattle.vlog_token.proofs.part.solid_len.Goals as goal
 

@@ -1,6 +1,4 @@
-use Rattle.std.proofs.Common.{sym, ◌∙◌, subst}
-use Rattle.vlog_token.specs.Pieces.{HasValue}
-use Rattle.vlog_token.specs.Reading.{IsFaultOf, LacksValue}
+use Rattle.vlog_token.proofs.Common.{sym, ◌∙◌, subst, HasValue, IsFaultOf, LacksValue}
 use Rattle.vlog_token.proofs.TokenLemmas.{fault_there, lacking, token_part}
 use Rattle.vlog_token.proofs.part.token_at.Goals as goal
 

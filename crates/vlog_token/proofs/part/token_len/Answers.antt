@@ -1,11 +1,5 @@
-use Rattle.std.proofs.Common.{sym, ap, ◌∙◌, subst, arith, Some, None}
-use Rattle.std.specs.Prelude.{slice_index}
-use Rattle.std.proofs.lemmas.List.{take_rest}
-use Rattle.vlog_token.specs.declared.token.TokenKind.TheVariants.{Number, Symbol}
-use Rattle.vlog_token.specs.Kinds.{Fits}
-use Rattle.vlog_token.specs.Shapes.{IsShape}
-use Rattle.vlog_token.specs.Symbols.{IsSymbol}
-use Rattle.vlog_token.specs.Reading.{IsBodyOf, IsLongestFront, NoFront}
+use Rattle.vlog_token.proofs.Common.{sym, ap, ◌∙◌, subst, arith, slice_index, take_rest, Number, Symbol, Fits, IsShape, IsSymbol, IsBodyOf, IsLongestFront, NoFront}
+use Rattle.std.proofs.Common.{Some, None}
 use Rattle.vlog_token.proofs.SymbolFronts.{symbol_front}
 use Rattle.vlog_token.proofs.ShapeFronts.{shape_front}
 use Rattle.vlog_token.proofs.KindLemmas.{kind_starts}

@@ -1,5 +1,4 @@
-use Rattle.std.proofs.Common.{◌≡◌, ◌+◌, ◌≤◌, take}
-use Rattle.vlog_token.specs.Places.{place_moved}
+use Rattle.vlog_token.proofs.Common.{◌≡◌, ◌+◌, ◌≤◌, take, place_moved}
 use Rattle.vlog_token.proofs.place.moved.Given as goal
 
 abbrev pub invariant-loop-b : goal.invariant-loop-b

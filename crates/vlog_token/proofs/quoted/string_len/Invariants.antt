@@ -1,6 +1,4 @@
-use Rattle.std.proofs.Common.{◌≡◌, ◌+◌, false, drop}
-use Rattle.std.specs.Prelude.{option_map}
-use Rattle.vlog_token.specs.Reading.{string_end}
+use Rattle.vlog_token.proofs.Common.{◌≡◌, ◌+◌, false, drop, option_map, string_end}
 use Rattle.vlog_token.proofs.quoted.string_len.Given as goal
 
 abbrev pub invariant-loop-at : goal.invariant-loop-at

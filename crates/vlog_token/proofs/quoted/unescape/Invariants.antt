@@ -1,5 +1,4 @@
-use Rattle.std.proofs.Common.{◌≡◌, ◌++◌, false, drop}
-use Rattle.vlog_token.specs.Names.{unescaped}
+use Rattle.vlog_token.proofs.Common.{◌≡◌, ◌++◌, false, drop, unescaped}
 use Rattle.vlog_token.proofs.quoted.unescape.Given as goal
 
 abbrev pub invariant-loop-b : goal.invariant-loop-b

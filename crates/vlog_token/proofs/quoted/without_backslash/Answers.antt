@@ -1,4 +1,4 @@
-use Rattle.std.proofs.Common.{get_or, ap, arith}
+use Rattle.vlog_token.proofs.Common.{get_or, ap, arith}
 use Rattle.std.proofs.lemmas.Str.{IsCharBoundary-after_ascii}
 use Rattle.vlog_token.proofs.quoted.without_backslash.Goals as goal
 

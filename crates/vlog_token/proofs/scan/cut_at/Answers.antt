@@ -1,6 +1,4 @@
-use Rattle.std.proofs.Common.{◌≤◌, length, take, drop, subst}
-use Rattle.vlog_token.specs.Pieces.{IsHere}
-use Rattle.vlog_token.specs.Reading.{piece_of}
+use Rattle.vlog_token.proofs.Common.{◌≤◌, length, take, drop, subst, IsHere, piece_of}
 use Rattle.vlog_token.proofs.CutLemmas.{part_cut}
 use Rattle.vlog_token.proofs.scan.cut_at.Goals as goal
 

@@ -1,7 +1,4 @@
-use Rattle.std.proofs.Common.{◌≡◌, ◌++◌, map, sym, ap, ◌∙◌, subst, arith}
-use Rattle.vlog_token.specs.Places.{place_moved}
-use Rattle.vlog_token.specs.Sources.{seen}
-use Rattle.vlog_token.specs.Reading.{tokens_in}
+use Rattle.vlog_token.proofs.Common.{◌≡◌, ◌++◌, map, sym, ap, ◌∙◌, subst, arith, place_moved, seen, tokens_in}
 use Rattle.vlog_token.proofs.ScanLemmas.{column_fits, line_fits, one_piece_more, Scanned}
 use Rattle.vlog_token.proofs.scan.tokens.Goals as goal
 

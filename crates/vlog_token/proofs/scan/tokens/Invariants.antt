@@ -1,5 +1,4 @@
-use Rattle.std.proofs.Common.{length, map}
-use Rattle.vlog_token.specs.Sources.{seen}
+use Rattle.vlog_token.proofs.Common.{length, map, seen}
 use Rattle.vlog_token.proofs.ScanLemmas.{Scanned}
 use Rattle.vlog_token.proofs.scan.tokens.Given as goal
 

@@ -1,8 +1,4 @@
-use Rattle.std.proofs.Common.{◌≡◌, ◌∷◌, ℕ, ◌+◌, ◌-◌, drop, ap, ◌∙◌, arith}
-use Rattle.std.proofs.lemmas.List.{drop_more}
-use Rattle.vlog_grammar.specs.declared.step.Step.{Step}
-use Rattle.vlog_grammar.specs.declared.step.Step.TheVariants.{Begin}
-use Rattle.vlog_trees.specs.Meaning.{run}
+use Rattle.vlog_trees.proofs.Common.{◌≡◌, ◌∷◌, ℕ, ◌+◌, ◌-◌, drop, ap, ◌∙◌, arith, drop_more, Step, Begin, run}
 use Rattle.vlog_trees.proofs.Sorted.{parts_sorted}
 use Rattle.vlog_trees.proofs.build.build.Goals as goal
 

@@ -1,5 +1,4 @@
-use Rattle.std.proofs.Common.{◌≡◌, drop}
-use Rattle.vlog_trees.specs.Meaning.{run}
+use Rattle.vlog_trees.proofs.Common.{◌≡◌, drop, run}
 use Rattle.vlog_trees.proofs.build.build.Given as goal
 
 abbrev pub invariant-loop-i : goal.invariant-loop-i

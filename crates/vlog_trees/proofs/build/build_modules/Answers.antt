@@ -1,6 +1,4 @@
-use Rattle.std.proofs.Common.{List, ap, ◌∙◌}
-use Rattle.vlog_parts.specs.declared.value.Value.{Value}
-use Rattle.vlog_parts.specs.Values.{first, modules_of}
+use Rattle.vlog_trees.proofs.Common.{List, ap, ◌∙◌, Value, first, modules_of}
 use Rattle.vlog_trees.proofs.Runs.{modules_run}
 use Rattle.vlog_trees.proofs.build.build_modules.Goals as goal
 

@@ -1,5 +1,4 @@
-use Rattle.std.proofs.Common.{◌≡◌, length}
-use Rattle.vlog_trees.specs.Expressions.{chained}
+use Rattle.vlog_trees.proofs.Common.{◌≡◌, length, chained}
 use Rattle.vlog_trees.proofs.expressions.chained.Given as goal
 
 abbrev pub invariant-loop-link : goal.invariant-loop-link

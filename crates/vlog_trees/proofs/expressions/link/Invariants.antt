@@ -1,6 +1,4 @@
-use Rattle.std.proofs.Common.{◌≡◌, length}
-use Rattle.vlog_parts.specs.Values.{first, rest, second, span_of, expr_of}
-use Rattle.vlog_trees.specs.Expressions.{linked}
+use Rattle.vlog_trees.proofs.Common.{◌≡◌, length, first, rest, second, span_of, expr_of, linked}
 use Rattle.vlog_trees.proofs.expressions.link.Given as goal
 
 abbrev pub invariant-loop-right : goal.invariant-loop-right

@@ -1,6 +1,4 @@
-use Rattle.std.proofs.Common.{◌≡◌, length}
-use Rattle.vlog_trees.specs.Expressions.{operated}
-use Rattle.vlog_parts.specs.Values.{first, rest, expr_of}
+use Rattle.vlog_trees.proofs.Common.{◌≡◌, length, operated, first, rest, expr_of}
 use Rattle.vlog_trees.proofs.expressions.operated.Given as goal
 
 abbrev pub invariant-loop-value : goal.invariant-loop-value

@@ -1,11 +1,4 @@
-use Rattle.std.proofs.Common.{◌≡◌, Err, Some, length, set, slice_get, refl, sym, ap, ◌∙◌, arith}
-use Rattle.std.specs.Prelude.{option_map}
-use Rattle.std.proofs.lemmas.List.{length-map}
-use Rattle.std.proofs.lemmas.Result.{err_from_is_err_and}
-use Rattle.campaign_core.specs.Events.{slot_after}
-use Rattle.campaign_core.specs.Seats.{busy_of, seen}
-use Rattle.campaign_core.specs.Stages.{answered_at}
-use Rattle.campaign_core.specs.Turns.{Turns}
+use Rattle.campaign_core.proofs.Common.{◌≡◌, Err, Some, length, set, slice_get, refl, sym, ap, ◌∙◌, arith, option_map, length-map, err_from_is_err_and, slot_after, busy_of, seen, answered_at, Turns}
 use Rattle.campaign_core.proofs.Appends.{next_told, row_added, row_refused}
 use Rattle.campaign_core.proofs.Committing.{commit_kept, commit_order, commit_taken, has_room, row_here, told_follows, told_mutation, told_place, told_slot, told_word}
 use Rattle.campaign_core.proofs.KeptLemmas.{few_counts}

@@ -1,7 +1,4 @@
-use Rattle.std.proofs.Common.{◌≡◌, false, Option, sym, ap, ◌∙◌}
-use Rattle.std.specs.Prelude.{is_some}
-use Rattle.campaign_core.specs.declared.event.Event.{Event}
-use Rattle.campaign_core.specs.Orders.{slot_gives}
+use Rattle.campaign_core.proofs.Common.{◌≡◌, false, Option, sym, ap, ◌∙◌, is_some, Event, slot_gives}
 use Rattle.campaign_core.proofs.Nexts.{given_more}
 use Rattle.campaign_core.proofs.under_way.Core.first_given.Goals as goal
 

@@ -1,5 +1,4 @@
-use Rattle.std.proofs.Common.{◌≡◌, ◌-◌}
-use Rattle.campaign_core.specs.Orders.{first_given, slot_gives}
+use Rattle.campaign_core.proofs.Common.{◌≡◌, ◌-◌, first_given, slot_gives}
 use Rattle.campaign_core.proofs.under_way.Core.first_given.Given as goal
 
 -- those so far gave none

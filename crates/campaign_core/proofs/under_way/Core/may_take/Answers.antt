@@ -1,4 +1,4 @@
-use Rattle.std.proofs.Common.{refl}
+use Rattle.campaign_core.proofs.Common.{refl}
 use Rattle.campaign_core.proofs.StageLemmas.{commit_told, kept_stage, turn_told}
 use Rattle.campaign_core.proofs.under_way.Core.may_take.Goals as goal
 

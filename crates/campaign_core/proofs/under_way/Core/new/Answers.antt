@@ -1,5 +1,4 @@
-use Rattle.std.proofs.Common.{◌≡◌, ◌*◌, ℕ, length, ap, ap₂, ◌∙◌, arith}
-use Rattle.campaign_core.specs.UnderWay.{room_for}
+use Rattle.campaign_core.proofs.Common.{◌≡◌, ◌*◌, ℕ, length, ap, ap₂, ◌∙◌, arith, room_for}
 use Rattle.campaign_core.proofs.Begins.{few_product, length_wanted, made_is, made_kept}
 use Rattle.campaign_core.proofs.under_way.Core.new.Goals as goal
 

@@ -1,6 +1,4 @@
-use Rattle.std.proofs.Common.{◌≡◌, length, sym, ap, ◌∙◌, arith}
-use Rattle.std.proofs.lemmas.List.{length-map}
-use Rattle.campaign_core.specs.Turns.{Turns}
+use Rattle.campaign_core.proofs.Common.{◌≡◌, length, sym, ap, ◌∙◌, arith, length-map, Turns}
 use Rattle.campaign_core.proofs.Nexts.{found_first, found_second, kept_order}
 use Rattle.campaign_core.proofs.under_way.Core.next.Goals as goal
 

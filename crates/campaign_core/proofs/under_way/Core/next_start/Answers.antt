@@ -1,6 +1,4 @@
-use Rattle.std.proofs.Common.{sym, ap, ◌∙◌}
-use Rattle.std.specs.Prelude.{option_map}
-use Rattle.campaign_core.specs.Orders.{start_of}
+use Rattle.campaign_core.proofs.Common.{sym, ap, ◌∙◌, option_map, start_of}
 use Rattle.campaign_core.proofs.Nexts.{next_started}
 use Rattle.campaign_core.proofs.under_way.Core.next_start.Goals as goal
 

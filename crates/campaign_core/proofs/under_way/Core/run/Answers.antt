@@ -1,6 +1,4 @@
-use Rattle.std.proofs.Common.{◌∙◌, ◌-◌, ◌≤◌, [], ◌++◌, ◌∷◌, refl, sym, arith}
-use Rattle.std.proofs.lemmas.Result.{err_from_is_err_and}
-use Rattle.campaign_core.specs.Running.{Reached}
+use Rattle.campaign_core.proofs.Common.{◌∙◌, ◌-◌, ◌≤◌, [], ◌++◌, ◌∷◌, refl, sym, arith, err_from_is_err_and, Reached}
 use Rattle.campaign_core.proofs.RunBooks.{kept_after, kept_told, left_next}
 use Rattle.campaign_core.proofs.RunCounts.{reached, takes_later, takes_one, takes_room, takes_started, unreached, within_more, within_none}
 use Rattle.campaign_core.proofs.RunEnds.{broke_by, ran_ended, ran_reached, torn_by}

@@ -1,11 +1,4 @@
-use Rattle.std.proofs.Common.{◌≡◌, ◌+◌, ◌≤◌, IsTrue, List}
-use Rattle.mcy_keeper.specs.Books.{Keeps}
-use Rattle.campaign_core.specs.declared.event.Event.{Event}
-use Rattle.campaign_core.specs.Ahead.{events_left}
-use Rattle.campaign_core.specs.Laws.{Program}
-use Rattle.campaign_core.specs.Running.{HasFree, IsWithin, Reached, book_of}
-use Rattle.campaign_core.specs.Testers.{GivesTheSame}
-use Rattle.campaign_core.specs.UnderWay.{IsUnderWay}
+use Rattle.campaign_core.proofs.Common.{◌≡◌, ◌+◌, ◌≤◌, IsTrue, List, Keeps, Event, events_left, Program, HasFree, IsWithin, Reached, book_of, GivesTheSame, IsUnderWay}
 use Rattle.campaign_core.proofs.under_way.Core.run.Given as goal
 
 abbrev pub invariant-events : goal.invariant-events

@@ -1,8 +1,4 @@
-use Rattle.std.proofs.Common.{◌≡◌, length, refl, ap, ◌∙◌, arith}
-use Rattle.std.specs.Prelude.{option_map}
-use Rattle.std.proofs.lemmas.List.{length-map}
-use Rattle.campaign_core.specs.Events.{slot_after}
-use Rattle.campaign_core.specs.Seats.{busy_of, seen}
+use Rattle.campaign_core.proofs.Common.{◌≡◌, length, refl, ap, ◌∙◌, arith, option_map, length-map, slot_after, busy_of, seen}
 use Rattle.campaign_core.proofs.KeptLemmas.{few_counts}
 use Rattle.campaign_core.proofs.Starting.{mutation_within, refused_kept, refused_order, slot_within, start_asks, start_kept, start_order, start_taken}
 use Rattle.campaign_core.proofs.under_way.Core.start.Goals as goal

@@ -1,8 +1,4 @@
-use Rattle.std.proofs.Common.{◌≡◌, length, refl, ap, ◌∙◌, arith}
-use Rattle.std.specs.Prelude.{option_map}
-use Rattle.std.proofs.lemmas.List.{length-map}
-use Rattle.campaign_core.specs.Events.{slot_after}
-use Rattle.campaign_core.specs.Seats.{busy_of, seen}
+use Rattle.campaign_core.proofs.Common.{◌≡◌, length, refl, ap, ◌∙◌, arith, option_map, length-map, slot_after, busy_of, seen}
 use Rattle.campaign_core.proofs.Turning.{job_there, on_err, refused_kept, refused_order, refused_same, turn_kept, turn_order, turn_taken}
 use Rattle.campaign_core.proofs.under_way.Core.turn.Goals as goal
 

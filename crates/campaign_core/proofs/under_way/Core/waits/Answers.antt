@@ -1,4 +1,4 @@
-use Rattle.std.proofs.Common.{sym, ◌∙◌}
+use Rattle.campaign_core.proofs.Common.{sym, ◌∙◌}
 use Rattle.campaign_core.proofs.Nexts.{kept_waiting, told_waits, waits_told}
 use Rattle.campaign_core.proofs.WaitLemmas.{want_told}
 use Rattle.campaign_core.proofs.under_way.Core.waits.Goals as goal

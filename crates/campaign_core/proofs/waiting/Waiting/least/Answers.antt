@@ -1,6 +1,4 @@
-use Rattle.std.proofs.Common.{List, Option, None, ℕ, subst, sym, ◌∙◌, arith}
-use Rattle.result_book.specs.declared.goal.Want.{Want}
-use Rattle.campaign_core.specs.Waits.{AreLeads}
+use Rattle.campaign_core.proofs.Common.{List, Option, None, ℕ, subst, sym, ◌∙◌, arith, Want, AreLeads}
 use Rattle.campaign_core.proofs.WaitLemmas.{least_found, none_at_all, none_more}
 use Rattle.campaign_core.proofs.waiting.Waiting.least.Goals as goal
 

@@ -1,5 +1,4 @@
-use Rattle.std.proofs.Common.{◌*◌}
-use Rattle.campaign_core.specs.Waits.{NoneWaits, block_size}
+use Rattle.campaign_core.proofs.Common.{◌*◌, NoneWaits, block_size}
 use Rattle.campaign_core.proofs.waiting.Waiting.least.Given as goal
 
 abbrev pub invariant-loop-lead : goal.invariant-loop-lead

@@ -1,5 +1,4 @@
-use Rattle.std.proofs.Common.{◌≡◌, ◌+◌, ◌*◌, ℕ, length, slice_get, Option, Some}
-use Rattle.campaign_core.specs.Waits.{IsLead, block_size}
+use Rattle.campaign_core.proofs.Common.{◌≡◌, ◌+◌, ◌*◌, ℕ, length, slice_get, Option, Some, IsLead, block_size}
 use Rattle.campaign_core.proofs.waiting.Waiting.new.Given as goal
 
 abbrev pub invariant-loop-block : goal.invariant-loop-block

@@ -1,6 +1,4 @@
-use Rattle.std.proofs.Common.{◌*◌, ◌+◌, ◌/◌, List, Option, length, ap, subst, arith}
-use Rattle.result_book.specs.declared.goal.Want.{Want}
-use Rattle.campaign_core.specs.Waits.{IsLead, block_size}
+use Rattle.campaign_core.proofs.Common.{◌*◌, ◌+◌, ◌/◌, List, Option, length, ap, subst, arith, Want, IsLead, block_size}
 use Rattle.campaign_core.proofs.WaitLemmas.{leads_set}
 use Rattle.campaign_core.proofs.waiting.Waiting.set.Goals as goal
 

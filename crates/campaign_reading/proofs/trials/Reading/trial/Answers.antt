@@ -1,6 +1,4 @@
-use Rattle.std.proofs.Common.{◌≡◌, ◌∙◌, ap}
-use Rattle.std.proofs.lemmas.Result.{err_from_is_err_and}
-use Rattle.campaign_plan.specs.Trials.{numbers_in, reading_of, Reading}
+use Rattle.campaign_reading.proofs.Common.{◌≡◌, ◌∙◌, ap, err_from_is_err_and, numbers_in, reading_of, Reading}
 use Rattle.campaign_reading.proofs.Trying.{bench_refused}
 use Rattle.campaign_reading.proofs.trials.Reading.trial.Goals as goal
 

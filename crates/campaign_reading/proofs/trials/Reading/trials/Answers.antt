@@ -1,8 +1,4 @@
-use Rattle.std.proofs.Common.{subst, sym}
-use Rattle.std.proofs.lemmas.Result.{err_from_is_err_and}
-use Rattle.campaign_plan.specs.declared.trial.Trial.{Trial}
-use Rattle.std.proofs.Common.{List, ◌+◌, take}
-use Rattle.campaign_plan.specs.Trials.{reading_of, AreTrials, Reading}
+use Rattle.campaign_reading.proofs.Common.{subst, sym, err_from_is_err_and, Trial, List, ◌+◌, take, reading_of, AreTrials, Reading}
 use Rattle.campaign_reading.proofs.Trying.{fault_at, trials_more}
 use Rattle.campaign_reading.proofs.trials.Reading.trials.Goals as goal
 

@@ -1,5 +1,4 @@
-use Rattle.std.proofs.Common.{take}
-use Rattle.campaign_plan.specs.Trials.{AreTrials, reading_of}
+use Rattle.campaign_reading.proofs.Common.{take, AreTrials, reading_of}
 use Rattle.campaign_reading.proofs.trials.Reading.trials.Given as goal
 
 abbrev pub invariant-loop-number : goal.invariant-loop-number

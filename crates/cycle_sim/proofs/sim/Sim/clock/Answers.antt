@@ -1,9 +1,4 @@
-use Rattle.std.proofs.Common.{List, sym, ◌∙◌, subst}
-use Rattle.std.proofs.lemmas.List.{length-map}
-use Rattle.netlist_core.specs.declared.port.Register.{Register}
-use Rattle.netlist_core.specs.Runs.{q_bits}
-use Rattle.netlist_core.specs.Solutions.{FitPorts}
-use Rattle.cycle_sim.specs.Simulated.{nets_of}
+use Rattle.cycle_sim.proofs.Common.{List, sym, ◌∙◌, subst, length-map, Register, q_bits, FitPorts, nets_of}
 use Rattle.cycle_sim.proofs.Plans.{fit-length, fit-taken}
 use Rattle.cycle_sim.proofs.sim.Sim.clock.Goals as goal
 

@@ -1,10 +1,4 @@
-use Rattle.std.proofs.Common.{◌≡◌, ℕ, List, ◌++◌, length, drop, sym, ◌∙◌, ap, subst, arith}
-use Rattle.std.proofs.lemmas.List.{append-nil, drop_all}
-use Rattle.mcy_base.specs.declared.word.Word.{Word}
-use Rattle.netlist_core.specs.Runs.{q_bits}
-use Rattle.netlist_core.specs.Checked.{Plan}
-use Rattle.netlist_core.specs.Solutions.{FitPorts}
-use Rattle.cycle_sim.specs.Simulated.{Simulated, HaveWidths, numbers_of}
+use Rattle.cycle_sim.proofs.Common.{◌≡◌, ℕ, List, ◌++◌, length, drop, sym, ◌∙◌, ap, subst, arith, append-nil, drop_all, Word, q_bits, Plan, FitPorts, Simulated, HaveWidths, numbers_of}
 use Rattle.cycle_sim.proofs.Plans.{fit-length, fit-words, words-length}
 use Rattle.cycle_sim.proofs.sim.Sim.load.Goals as goal
 

@@ -1,7 +1,4 @@
-use Rattle.std.proofs.Common.{sym, subst}
-use Rattle.netlist_core.specs.Runs.{q_bits}
-use Rattle.netlist_core.specs.Checked.{IsSound}
-use Rattle.netlist_core.specs.Solutions.{FitPorts, driving}
+use Rattle.cycle_sim.proofs.Common.{sym, subst, q_bits, IsSound, FitPorts, driving}
 use Rattle.cycle_sim.proofs.Plans.{fit-zeros, fit-starts}
 use Rattle.cycle_sim.proofs.sim.Sim.new.Goals as goal
 

@@ -1,12 +1,6 @@
-use Rattle.std.proofs.Common.{◌≡◌, ℕ, ◌<◌, List, [], length, get_or, slice_get, slice_index, Some, sym, ◌∙◌, ap, subst, arith}
-use Rattle.std.proofs.lemmas.List.{get_or-map}
-use Rattle.netlist_core.specs.declared.bit.Bit.{Bit}
-use Rattle.netlist_core.specs.Numbers.{number}
-use Rattle.netlist_core.specs.Runs.{Nets, plain, values, bits_at, shown}
-use Rattle.netlist_core.specs.Checked.{Plan}
-use Rattle.netlist_core.specs.Solutions.{driving}
-use Rattle.cycle_sim.specs.Parts.{IsReadable, parts_number}
-use Rattle.cycle_sim.specs.Simulated.{Simulated, nets_of, settled_nets}
+use Rattle.cycle_sim.proofs.Common.{◌≡◌, ℕ, ◌<◌, List, [], length, get_or, slice_get, Some, sym, ◌∙◌, ap, subst, arith, get_or-map, Bit, number, Nets, plain, values, bits_at, shown, Plan, driving}
+use Rattle.cycle_sim.proofs.Common.{IsReadable, parts_number, Simulated, nets_of, settled_nets}
+use Rattle.std.proofs.Common.{slice_index}
 use Rattle.cycle_sim.proofs.Wired.{wired-length, wires-number}
 use Rattle.cycle_sim.proofs.Plans.{table-numbers}
 use Rattle.cycle_sim.proofs.Reading.{output-inside}

@@ -1,11 +1,6 @@
-use Rattle.std.proofs.Common.{◌≡◌, ℕ, ◌^◌, ◌<◌, List, length, get_or, slice_get, slice_index, Some, sym, ◌∙◌, ap, subst, refl, arith}
-use Rattle.std.proofs.lemmas.List.{length-map, get_or_default}
-use Rattle.std.proofs.lemmas.Option.{slice_get_read, same_Some}
-use Rattle.netlist_core.specs.declared.port.Register.{Register}
-use Rattle.netlist_core.specs.declared.raw.RawNetlist.{RawNetlist}
-use Rattle.netlist_core.specs.Runs.{q_bits}
-use Rattle.netlist_core.specs.Checked.{Plan}
-use Rattle.cycle_sim.specs.Simulated.{Simulated}
+use Rattle.cycle_sim.proofs.Common.{◌≡◌, ℕ, ◌^◌, ◌<◌, List, length, get_or, slice_get, Some, sym, ◌∙◌, ap, subst, refl, arith, length-map, get_or_default, slice_get_read, same_Some, Register}
+use Rattle.cycle_sim.proofs.Common.{RawNetlist, q_bits, Plan, Simulated}
+use Rattle.std.proofs.Common.{slice_index}
 use Rattle.cycle_sim.proofs.Plans.{fit-length}
 use Rattle.cycle_sim.proofs.Cycles.{stored-at}
 use Rattle.cycle_sim.proofs.sim.Sim.register.Goals as goal

@@ -1,11 +1,5 @@
-use Rattle.std.proofs.Common.{◌≡◌, ℕ, ◌≤◌, List, ◌++◌, length, take, drop, sym, ◌∙◌, ap, subst}
-use Rattle.std.proofs.lemmas.List.{length-map}
-use Rattle.mcy_base.specs.declared.word.Word.{Word}
-use Rattle.netlist_core.specs.Runs.{Nets, plain, bits_at, Holds}
-use Rattle.netlist_core.specs.Drivers.{drivers}
-use Rattle.netlist_core.specs.Checked.{Plan}
-use Rattle.cycle_sim.specs.Simulated.{Simulated, HaveWidths, numbers_of, settled_nets}
-use Rattle.cycle_sim.specs.Marks.{AreReaders}
+use Rattle.cycle_sim.proofs.Common.{◌≡◌, ℕ, ◌≤◌, List, ◌++◌, length, take, drop, sym, ◌∙◌, ap, subst, length-map, Word, Nets, plain, bits_at, Holds, drivers, Plan, Simulated, HaveWidths, numbers_of}
+use Rattle.cycle_sim.proofs.Common.{settled_nets, AreReaders}
 use Rattle.cycle_sim.proofs.Fronts.{word-inside, laid-front-is}
 use Rattle.cycle_sim.proofs.sim.Sim.settle.Goals as goal
 

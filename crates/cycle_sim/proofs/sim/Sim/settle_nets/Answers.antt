@@ -1,11 +1,4 @@
-use Rattle.std.proofs.Common.{◌≡◌, ℕ, ◌≤◌, List, length, take, sym, ap, subst}
-use Rattle.netlist_core.specs.Runs.{Nets, plain, q_bits, Holds}
-use Rattle.netlist_core.specs.Drivers.{drivers}
-use Rattle.netlist_core.specs.Solutions.{FitPorts, driving}
-use Rattle.cycle_sim.specs.declared.parts.Gate.{Gate}
-use Rattle.cycle_sim.specs.Simulated.{Simulated, nets_of}
-use Rattle.cycle_sim.specs.Gates.{AllGates}
-use Rattle.cycle_sim.specs.Marks.{AreReaders}
+use Rattle.cycle_sim.proofs.Common.{◌≡◌, ℕ, ◌≤◌, List, length, take, sym, ap, subst, Nets, plain, q_bits, Holds, drivers, FitPorts, driving, Gate, Simulated, nets_of, AllGates, AreReaders}
 use Rattle.cycle_sim.proofs.Settling.{settled-holds, settled-alone}
 use Rattle.cycle_sim.proofs.sim.Sim.settle_nets.Goals as goal
 

@@ -1,12 +1,5 @@
-use Rattle.std.proofs.Common.{◌≡◌, ℕ, ◌≤◌, List, ◌++◌, map, length, take, drop, sym, ◌∙◌, ap, subst}
-use Rattle.std.specs.Prelude.{slice_index}
-use Rattle.std.proofs.lemmas.List.{length-map}
-use Rattle.mcy_base.specs.declared.word.Word.{Word}
-use Rattle.netlist_core.specs.Runs.{Nets, plain, bits_at, Holds}
-use Rattle.netlist_core.specs.Drivers.{drivers}
-use Rattle.netlist_core.specs.Checked.{Plan}
-use Rattle.cycle_sim.specs.Simulated.{Simulated, numbers_of, settled_nets}
-use Rattle.cycle_sim.specs.Marks.{AreReaders}
+use Rattle.cycle_sim.proofs.Common.{◌≡◌, ℕ, ◌≤◌, List, ◌++◌, map, length, take, drop, sym, ◌∙◌, ap, subst, slice_index, length-map, Word, Nets, plain, bits_at, Holds, drivers, Plan, Simulated}
+use Rattle.cycle_sim.proofs.Common.{numbers_of, settled_nets, AreReaders}
 use Rattle.cycle_sim.proofs.Fronts.{named-inside, laid-front-is}
 use Rattle.cycle_sim.proofs.sim.Sim.settle_with.Goals as goal
 

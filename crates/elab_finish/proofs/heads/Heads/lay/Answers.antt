@@ -1,5 +1,4 @@
-use Rattle.std.proofs.Common.{◌<◌, ◌∙◌, ap, length, arith}
-use Rattle.elab_finish.specs.Heads.{head_in, with_head}
+use Rattle.elab_finish.proofs.Common.{◌<◌, ◌∙◌, ap, length, arith, head_in, with_head}
 use Rattle.elab_finish.proofs.Orders.{push_head, set_head}
 use Rattle.elab_finish.proofs.heads.Heads.lay.Goals as goal
 

@@ -1,5 +1,4 @@
-use Rattle.std.proofs.Common.{◌≡◌, ◌+◌, ◌-◌, vec_len}
-use Rattle.elab_finish.specs.Heads.{head_in}
+use Rattle.elab_finish.proofs.Common.{◌≡◌, ◌+◌, ◌-◌, vec_len, head_in}
 use Rattle.elab_finish.proofs.heads.Heads.lay.Given as goal
 
 abbrev pub invariant-loop-self : goal.invariant-loop-self

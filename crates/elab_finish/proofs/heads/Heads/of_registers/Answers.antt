@@ -1,8 +1,4 @@
-use Rattle.std.proofs.Common.{ℕ, ◌+◌, List, Option, sym, ◌∙◌, ap, subst, arith}
-use Rattle.std.proofs.lemmas.Option.{slice_get_within}
-use Rattle.netlist_core.specs.declared.bit.Bit.{Bit}
-use Rattle.netlist_core.specs.declared.port.Register.{Register}
-use Rattle.elab_finish.specs.Heads.{head_in, after_lowest}
+use Rattle.elab_finish.proofs.Common.{ℕ, ◌+◌, List, Option, sym, ◌∙◌, ap, subst, arith, slice_get_within, Bit, Register, head_in, after_lowest}
 use Rattle.elab_finish.proofs.Orders.{HaveFirst, heads_step, register_there}
 use Rattle.elab_finish.proofs.heads.Heads.of_registers.Goals as goal
 

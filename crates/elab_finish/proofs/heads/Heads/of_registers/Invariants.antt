@@ -1,4 +1,4 @@
-use Rattle.elab_finish.specs.Heads.{head_in}
+use Rattle.elab_finish.proofs.Common.{head_in}
 use Rattle.elab_finish.proofs.Orders.{HaveFirst}
 use Rattle.elab_finish.proofs.heads.Heads.of_registers.Given as goal
 

@@ -1,7 +1,4 @@
-use Rattle.std.proofs.Common.{◌≡◌, sym, ◌∙◌}
-use Rattle.std.proofs.lemmas.Bool.{false≢true}
-use Rattle.elab_finish.specs.declared.search.Mark.TheVariants.{Unknown, From, Looped}
-use Rattle.elab_finish.specs.Loops.{next_of}
+use Rattle.elab_finish.proofs.Common.{◌≡◌, sym, ◌∙◌, false≢true, Unknown, From, Looped, next_of}
 use Rattle.elab_finish.proofs.Searching.{met_loops, settles}
 use Rattle.elab_finish.proofs.search.Search.close.Goals as goal
 

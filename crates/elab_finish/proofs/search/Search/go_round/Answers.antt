@@ -1,10 +1,4 @@
-use Rattle.std.proofs.Common.{◌≡◌, ℕ, false, set, inl, inr, sym, ◌∙◌, subst, arith}
-use Rattle.std.proofs.lemmas.Bool.{false≢true}
-use Rattle.std.proofs.lemmas.List.{length-set}
-use Rattle.net_builder.proofs.Following.{loop_goes, loop_next}
-use Rattle.elab_finish.specs.declared.search.Mark.TheVariants.{Looped}
-use Rattle.elab_finish.specs.Loops.{next_of}
-use Rattle.elab_finish.specs.Searching.{mark_in}
+use Rattle.elab_finish.proofs.Common.{◌≡◌, ℕ, false, set, inl, inr, sym, ◌∙◌, subst, arith, false≢true, length-set, loop_goes, loop_next, Looped, next_of, mark_in}
 use Rattle.elab_finish.proofs.Searching.{stays_known, round_here, round_stays, round_on, one_closed}
 use Rattle.elab_finish.proofs.search.Search.go_round.Goals as goal
 

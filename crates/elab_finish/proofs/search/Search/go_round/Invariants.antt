@@ -1,8 +1,4 @@
-use Rattle.std.proofs.Common.{◌≡◌, ◌≢◌, ◌⊎◌, ◌<◌, ℕ, length}
-use Rattle.net_builder.specs.declared.steps.Step.TheVariants.{On}
-use Rattle.elab_finish.specs.declared.search.Mark.TheVariants.{Unknown, Looped}
-use Rattle.elab_finish.specs.Loops.{next_of, IsLooped}
-use Rattle.elab_finish.specs.Searching.{mark_in, tally, one_open, IsWalked, IsRounded}
+use Rattle.elab_finish.proofs.Common.{◌≡◌, ◌≢◌, ◌⊎◌, ◌<◌, ℕ, length, On, Unknown, Looped, next_of, IsLooped, mark_in, tally, one_open, IsWalked, IsRounded}
 use Rattle.elab_finish.proofs.search.Search.go_round.Given as goal
 
 abbrev pub invariant-loop-self : goal.invariant-loop-self

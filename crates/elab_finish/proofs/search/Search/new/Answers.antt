@@ -1,4 +1,4 @@
-use Rattle.elab_finish.specs.Loops.{next_of}
+use Rattle.elab_finish.proofs.Common.{next_of}
 use Rattle.elab_finish.proofs.Searching.{settled_none}
 use Rattle.elab_finish.proofs.search.Search.new.Goals as goal
 

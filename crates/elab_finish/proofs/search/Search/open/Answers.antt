@@ -1,8 +1,4 @@
-use Rattle.std.proofs.Common.{◌≡◌, refl, subst}
-use Rattle.net_builder.specs.declared.steps.Step.TheVariants.{On}
-use Rattle.elab_finish.specs.declared.search.Mark.TheVariants.{From}
-use Rattle.elab_finish.specs.Loops.{next_of}
-use Rattle.elab_finish.specs.Searching.{IsNext}
+use Rattle.elab_finish.proofs.Common.{◌≡◌, refl, subst, On, From, next_of, IsNext}
 use Rattle.elab_finish.proofs.Searching.{walk_on, walk_ends, one_less}
 use Rattle.elab_finish.proofs.search.Search.open.Goals as goal
 

@@ -1,7 +1,4 @@
-use Rattle.std.proofs.Common.{◌≡◌, ◌≢◌, ◌⊎◌}
-use Rattle.elab_finish.specs.declared.search.Mark.TheVariants.{Unknown}
-use Rattle.elab_finish.specs.Loops.{next_of}
-use Rattle.elab_finish.specs.Searching.{mark_in, tally, one_unknown, IsWalked}
+use Rattle.elab_finish.proofs.Common.{◌≡◌, ◌≢◌, ◌⊎◌, Unknown, next_of, mark_in, tally, one_unknown, IsWalked}
 use Rattle.elab_finish.proofs.search.Search.walk.Given as goal
 
 abbrev pub invariant-loop-next : goal.invariant-loop-next

@@ -1,7 +1,4 @@
-use Rattle.std.proofs.Common.{◌≡◌, List, [], ℤ, refl, sym, ap, subst, ◌∙◌}
-use Rattle.netlist_core.specs.Checked.{Plan, IsSound}
-use Rattle.sat_solver.specs.Found.{Hunt}
-use Rattle.pair_gates.specs.Differences.{TellDifferences}
+use Rattle.equiv_test.proofs.Common.{◌≡◌, List, [], ℤ, refl, sym, ap, subst, ◌∙◌, Plan, IsSound, Hunt, TellDifferences}
 use Rattle.equiv_test.proofs.Going.{new-job, still-seen, alike-copies, few-copy, memory-refused}
 use Rattle.equiv_test.proofs.job.EqJob.new.Goals as goal
 

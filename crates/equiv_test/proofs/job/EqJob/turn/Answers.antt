@@ -1,10 +1,4 @@
-use Rattle.std.proofs.Common.{◌≡◌, Option, Some, refl, sym, ap, subst, ◌∙◌}
-use Rattle.std.specs.Prelude.{MatchOption, ⊤}
-use Rattle.netlist_core.specs.Checked.{Plan}
-use Rattle.sat_solver.specs.Found.{Hunt, IsRunning}
-use Rattle.equiv_test.specs.declared.verdict.EqVerdict.TheVariants.{Change}
-use Rattle.equiv_test.specs.Jobs.{Job, IsPairSearch}
-use Rattle.equiv_test.specs.Verdicts.{Shows, Tells}
+use Rattle.equiv_test.proofs.Common.{◌≡◌, Option, Some, refl, sym, ap, subst, ◌∙◌, MatchOption, ⊤, Plan, Hunt, IsRunning, Change, Job, IsPairSearch, Shows, Tells}
 use Rattle.equiv_test.proofs.Telling.{some-is, still-pair, tells-seen}
 use Rattle.equiv_test.proofs.Going.{going-some, taken-running, still-job, still-fewer, goes-on, goes-long}
 use Rattle.equiv_test.proofs.job.EqJob.turn.Goals as goal

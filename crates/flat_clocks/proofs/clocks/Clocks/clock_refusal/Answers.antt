@@ -1,7 +1,4 @@
-use Rattle.std.proofs.lemmas.Result.{IfOk-weaker}
-use Rattle.vlog_meaning.specs.Scopes.{names_of}
-use Rattle.flat_items.specs.Views.{flat_of}
-use Rattle.flat_clocks.specs.Views.{clocks_in}
+use Rattle.flat_clocks.proofs.Common.{IfOk-weaker, names_of, flat_of, clocks_in}
 use Rattle.flat_clocks.proofs.Items.{enters_refused, runs_refused}
 use Rattle.flat_clocks.proofs.clocks.Clocks.clock_refusal.Goals as goal
 

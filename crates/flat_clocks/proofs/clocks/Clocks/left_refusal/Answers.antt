@@ -1,6 +1,4 @@
-use Rattle.vlog_meaning.specs.Scopes.{names_of}
-use Rattle.flat_clocks.specs.Clocks.{clock_names}
-use Rattle.flat_clocks.specs.Views.{clocks_in}
+use Rattle.flat_clocks.proofs.Common.{names_of, clock_names, clocks_in}
 use Rattle.flat_clocks.proofs.Hiding.{left_alone}
 use Rattle.flat_clocks.proofs.clocks.Clocks.left_refusal.Goals as goal
 

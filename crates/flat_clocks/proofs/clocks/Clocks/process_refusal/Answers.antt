@@ -1,8 +1,4 @@
-use Rattle.vlog_syntax.specs.declared.stmt.Stmt.{Stmt}
-use Rattle.vlog_meaning.specs.Scopes.{names_of}
-use Rattle.flat_clocks.specs.Clocks.{clock_names}
-use Rattle.flat_clocks.specs.Reads.{stmt_reads}
-use Rattle.flat_clocks.specs.Views.{clocks_in}
+use Rattle.flat_clocks.proofs.Common.{Stmt, names_of, clock_names, stmt_reads, clocks_in}
 use Rattle.flat_clocks.proofs.Firsts.{moved}
 use Rattle.flat_clocks.proofs.clocks.Clocks.process_refusal.Goals as goal
 

@@ -1,6 +1,5 @@
-use Rattle.std.proofs.Common.{◌∙◌, ap, List}
+use Rattle.flat_instances.proofs.Common.{◌∙◌, ap, List, is_among}
 use Rattle.vlog_syntax.specs.declared.identifier.Identifier.{Identifier}
-use Rattle.flat_scopes.specs.Openings.{is_among}
 use Rattle.flat_instances.proofs.Wiring.{among_ports}
 use Rattle.flat_instances.proofs.wired.Wired.has.Goals as goal
 

@@ -1,6 +1,4 @@
-use Rattle.std.proofs.Common.{◌≡◌, drop}
-use Rattle.flat_items.specs.Flattened.{add_all, assigned_items}
-use Rattle.flat_items.specs.Views.{flat_of}
+use Rattle.flat_items.proofs.Common.{◌≡◌, drop, add_all, assigned_items, flat_of}
 use Rattle.flat_items.proofs.flat.Flat.assigns.Given as goal
 
 abbrev pub invariant-loop-assignment : goal.invariant-loop-assignment

@@ -1,10 +1,4 @@
-use Rattle.std.proofs.Common.{List, ℕ, ap, sym, subst}
-use Rattle.vlog_meaning.specs.Scopes.{names_of}
-use Rattle.flat_scopes.specs.Owns.{what_of}
-use Rattle.flat_scopes.specs.Views.{opened_of}
-use Rattle.flat_items.specs.Flattened.{label_of, IsBlockName}
-use Rattle.flat_instances.specs.Places.{place_of}
-use Rattle.flat_items.specs.Views.{flat_of}
+use Rattle.flat_items.proofs.Common.{List, ℕ, ap, sym, subst, names_of, what_of, opened_of, label_of, IsBlockName, place_of, flat_of}
 use Rattle.flat_items.proofs.Rules.{block_opens}
 use Rattle.flat_items.proofs.flat.Flat.chosen_block.Goals as goal
 

@@ -1,7 +1,4 @@
-use Rattle.std.proofs.Common.{List, ℕ, ap, ◌∙◌, ◌∷◌}
-use Rattle.flat_scopes.specs.Views.{opened_of}
-use Rattle.flat_instances.specs.Places.{place_of}
-use Rattle.flat_items.specs.Views.{flat_of}
+use Rattle.flat_items.proofs.Common.{List, ℕ, ap, ◌∙◌, ◌∷◌, opened_of, place_of, flat_of}
 use Rattle.flat_items.proofs.Rules.{instance_places}
 use Rattle.flat_items.proofs.flat.Flat.enter_instance.Goals as goal
 

@@ -1,6 +1,4 @@
-use Rattle.std.proofs.lemmas.Result.{IfOk-weaker}
-use Rattle.flat_instances.specs.Places.{place_of}
-use Rattle.flat_items.specs.Views.{flat_of}
+use Rattle.flat_items.proofs.Common.{IfOk-weaker, place_of, flat_of}
 use Rattle.flat_items.proofs.Rules.{condition_chooses, loop_replaced}
 use Rattle.flat_items.proofs.flat.Flat.generates.Goals as goal
 

@@ -1,6 +1,4 @@
-use Rattle.flat_instances.specs.Places.{place_of}
-use Rattle.flat_items.specs.Flattened.{is_full}
-use Rattle.flat_items.specs.Views.{flat_of}
+use Rattle.flat_items.proofs.Common.{place_of, is_full, flat_of}
 use Rattle.flat_items.proofs.Numbered.{placed_by}
 use Rattle.flat_items.proofs.Rules.{instance_refused, instance_placed}
 use Rattle.flat_items.proofs.flat.Flat.instance.Goals as goal

@@ -1,7 +1,4 @@
-use Rattle.std.proofs.Common.{◌≡◌, drop}
-use Rattle.flat_items.specs.Flattened.{add_all}
-use Rattle.flat_items.specs.Replacing.{repeated}
-use Rattle.flat_items.specs.Views.{flat_of}
+use Rattle.flat_items.proofs.Common.{◌≡◌, drop, add_all, repeated, flat_of}
 use Rattle.flat_items.proofs.flat.Flat.list_repeated.Given as goal
 
 abbrev pub invariant-loop-number : goal.invariant-loop-number

@@ -1,8 +1,4 @@
-use Rattle.vlog_meaning.specs.Scopes.{names_of}
-use Rattle.std.proofs.Common.{ap, ◌∙◌}
-use Rattle.flat_scopes.specs.Views.{opened_of}
-use Rattle.flat_instances.specs.Places.{place_of}
-use Rattle.flat_items.specs.Views.{flat_of}
+use Rattle.flat_items.proofs.Common.{names_of, ap, ◌∙◌, opened_of, place_of, flat_of}
 use Rattle.flat_items.proofs.Rules.{block_entered}
 use Rattle.flat_items.proofs.flat.Flat.open_block.Goals as goal
 

@@ -1,9 +1,5 @@
-use Rattle.std.proofs.Common.{◌≡◌, List, [], ◌∷◌, ◌++◌, sym, ap, ◌∙◌, subst, arith}
+use Rattle.flat_items.proofs.Common.{◌≡◌, List, [], ◌∷◌, ◌++◌, sym, ap, ◌∙◌, subst, arith, append-nil, Task, Flattens, flattened, flat_of}
 use Rattle.std.proofs.lemmas.Grind.{common_steps}
-use Rattle.std.proofs.lemmas.List.{append-nil}
-use Rattle.flat_items.specs.declared.task.Task.{Task}
-use Rattle.flat_items.specs.Replacing.{Flattens, flattened}
-use Rattle.flat_items.specs.Views.{flat_of}
 use Rattle.flat_items.proofs.Rules.{one_replaced}
 use Rattle.flat_items.proofs.flat.Flat.run.Goals as goal
 

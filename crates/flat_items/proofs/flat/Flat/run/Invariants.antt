@@ -1,6 +1,4 @@
-use Rattle.flat_items.specs.Flattened.{Flat}
-use Rattle.flat_items.specs.Replacing.{Flattens}
-use Rattle.flat_items.specs.Views.{flat_of}
+use Rattle.flat_items.proofs.Common.{Flat, Flattens, flat_of}
 use Rattle.flat_items.proofs.flat.Flat.run.Given as goal
 
 abbrev pub invariant-parts : goal.invariant-parts

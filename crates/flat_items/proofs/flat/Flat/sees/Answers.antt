@@ -1,6 +1,4 @@
-use Rattle.std.proofs.Common.{◌≡◌, None, Some, sym, ◌∙◌, rules}
-use Rattle.flat_items.specs.Flattened.{here, outside, nowhere}
-use Rattle.flat_instances.specs.Places.{place_of}
+use Rattle.flat_items.proofs.Common.{◌≡◌, None, Some, sym, ◌∙◌, rules, here, outside, nowhere, place_of}
 use Rattle.flat_items.proofs.flat.Flat.sees.Goals as goal
 
 pub returns-in-Some-get : goal.returns-in-Some-get

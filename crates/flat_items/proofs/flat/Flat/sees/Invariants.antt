@@ -1,7 +1,4 @@
-use Rattle.std.proofs.Common.{Option}
-use Rattle.flat_scopes.specs.declared.signal.What.{What}
-use Rattle.flat_items.specs.Flattened.{Sees}
-use Rattle.flat_items.specs.Views.{flat_of}
+use Rattle.flat_items.proofs.Common.{Option, What, Sees, flat_of}
 use Rattle.flat_items.proofs.flat.Flat.sees.Given as goal
 
 abbrev pub invariant-outward : goal.invariant-outward

@@ -1,8 +1,4 @@
-use Rattle.std.proofs.lemmas.Result.{IfOk-weaker}
-use Rattle.flat_instances.specs.Places.{place_of}
-use Rattle.flat_items.specs.Views.{flat_of}
-use Rattle.std.proofs.Common.{List, ℕ, subst}
-use Rattle.flat_items.specs.Flattened.{Sees}
+use Rattle.flat_items.proofs.Common.{IfOk-weaker, place_of, flat_of, List, ℕ, subst, Sees}
 use Rattle.flat_items.proofs.Rules.{genvar_refused, start_refused, loop_starts}
 use Rattle.flat_items.proofs.flat.Flat.starts.Goals as goal
 

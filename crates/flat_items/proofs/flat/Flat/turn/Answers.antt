@@ -1,11 +1,4 @@
-use Rattle.std.proofs.Common.{sym, ap, ◌∙◌}
-use Rattle.std.proofs.lemmas.Result.{IfOk-weaker}
-use Rattle.vlog_syntax.specs.declared.item.GenerateLoop.{GenerateLoop}
-use Rattle.vlog_meaning.specs.Scopes.{Names}
-use Rattle.flat_scopes.specs.Views.{opened_of}
-use Rattle.flat_items.specs.Flattened.{condition_in}
-use Rattle.flat_instances.specs.Places.{place_of}
-use Rattle.flat_items.specs.Views.{flat_of}
+use Rattle.flat_items.proofs.Common.{sym, ap, ◌∙◌, IfOk-weaker, GenerateLoop, Names, opened_of, condition_in, place_of, flat_of}
 use Rattle.flat_items.proofs.Rules.{Tested, turn_goes, turn_ends, turn_refused}
 use Rattle.flat_items.proofs.flat.Flat.turn.Goals as goal
 

@@ -1,10 +1,4 @@
-use Rattle.std.proofs.Common.{ap, ◌∙◌}
-use Rattle.vlog_syntax.specs.declared.item.GenerateLoop.{GenerateLoop}
-use Rattle.vlog_meaning.specs.Scopes.{Names}
-use Rattle.flat_scopes.specs.Views.{opened_of}
-use Rattle.flat_items.specs.Flattened.{integer_in}
-use Rattle.flat_items.specs.Replacing.{turn_name}
-use Rattle.flat_items.specs.Views.{flat_of}
+use Rattle.flat_items.proofs.Common.{ap, ◌∙◌, GenerateLoop, Names, opened_of, integer_in, turn_name, flat_of}
 use Rattle.flat_items.proofs.Rules.{turn_done}
 use Rattle.flat_items.proofs.flat.Flat.turn_block.Goals as goal
 

@@ -1,4 +1,4 @@
-use Rattle.std.proofs.Common.{◌∙◌}
+use Rattle.flat_items.proofs.Common.{◌∙◌}
 use Rattle.flat_items.proofs.Numbered.{looked_up}
 use Rattle.flat_items.proofs.numbers.ModuleNumbers.get.Goals as goal
 

@@ -1,5 +1,4 @@
-use Rattle.std.proofs.Common.{◌-◌, arith}
-use Rattle.flat_items.specs.Numbers.{number_of}
+use Rattle.flat_items.proofs.Common.{◌-◌, arith, number_of}
 use Rattle.flat_items.proofs.Numbered.{one_more}
 use Rattle.flat_items.proofs.numbers.ModuleNumbers.of.Goals as goal
 

@@ -1,6 +1,4 @@
-use Rattle.std.proofs.Common.{◌≡◌, ℕ, ◌≤◌, List, drop, length}
-use Rattle.flat_items.specs.Flattened.{module_from}
-use Rattle.flat_items.specs.Numbers.{number_of}
+use Rattle.flat_items.proofs.Common.{◌≡◌, ℕ, ◌≤◌, List, drop, length, module_from, number_of}
 use Rattle.flat_items.proofs.numbers.ModuleNumbers.of.Given as goal
 
 abbrev pub invariant-loop-left : goal.invariant-loop-left

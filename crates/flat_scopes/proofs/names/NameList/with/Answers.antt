@@ -1,5 +1,4 @@
-use Rattle.std.proofs.Common.{◌∙◌, ap}
-use Rattle.vlog_syntax.specs.declared.identifier.Identifier.{Identifier}
+use Rattle.flat_scopes.proofs.Common.{◌∙◌, ap, Identifier}
 use Rattle.flat_scopes.proofs.Known.{known_more}
 use Rattle.flat_scopes.proofs.names.NameList.with.Goals as goal
 

@@ -1,6 +1,4 @@
-use Rattle.std.proofs.Common.{arith}
-use Rattle.vlog_meaning.specs.Scopes.{names_of}
-use Rattle.flat_scopes.specs.Views.{opened_of}
+use Rattle.flat_scopes.proofs.Common.{arith, names_of, opened_of}
 use Rattle.flat_scopes.proofs.ItemLemmas.{items_open}
 use Rattle.flat_scopes.proofs.opening.Opening.+items.Goals as goal
 

@@ -1,8 +1,4 @@
-use Rattle.std.proofs.Common.{drop}
-use Rattle.vlog_meaning.specs.Scopes.{names_of}
-use Rattle.flat_scopes.specs.Openings.{Opened}
-use Rattle.flat_scopes.specs.Opens.{Opens}
-use Rattle.flat_scopes.specs.Views.{opened_of}
+use Rattle.flat_scopes.proofs.Common.{drop, names_of, Opened, Opens, opened_of}
 use Rattle.flat_scopes.proofs.opening.Opening.+items.Given as goal
 
 abbrev pub invariant-open_items-loop-item : goal.invariant-open_items-loop-item

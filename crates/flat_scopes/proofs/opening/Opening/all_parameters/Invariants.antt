@@ -1,7 +1,4 @@
-use Rattle.std.proofs.Common.{◌≡◌, drop}
-use Rattle.vlog_meaning.specs.Scopes.{names_of}
-use Rattle.flat_scopes.specs.Opens.{all_parameters}
-use Rattle.flat_scopes.specs.Views.{opened_of}
+use Rattle.flat_scopes.proofs.Common.{◌≡◌, drop, names_of, all_parameters, opened_of}
 use Rattle.flat_scopes.proofs.opening.Opening.all_parameters.Given as goal
 
 abbrev pub invariant-loop-declaration : goal.invariant-loop-declaration

@@ -1,6 +1,4 @@
-use Rattle.std.proofs.Common.{◌≡◌, drop}
-use Rattle.flat_scopes.specs.Opens.{all_ports}
-use Rattle.flat_scopes.specs.Views.{opened_of}
+use Rattle.flat_scopes.proofs.Common.{◌≡◌, drop, all_ports, opened_of}
 use Rattle.flat_scopes.proofs.opening.Opening.all_ports.Given as goal
 
 abbrev pub invariant-loop-declaration : goal.invariant-loop-declaration

@@ -1,6 +1,4 @@
-use Rattle.std.proofs.Common.{◌≡◌, drop}
-use Rattle.flat_scopes.specs.Insides.{block_names}
-use Rattle.flat_scopes.specs.Views.{opened_of}
+use Rattle.flat_scopes.proofs.Common.{◌≡◌, drop, block_names, opened_of}
 use Rattle.flat_scopes.proofs.opening.Opening.block_names.Given as goal
 
 abbrev pub invariant-loop-label : goal.invariant-loop-label

@@ -1,6 +1,4 @@
-use Rattle.std.proofs.Common.{◌≡◌, drop}
-use Rattle.flat_scopes.specs.Insides.{first_taken}
-use Rattle.flat_scopes.specs.Views.{opened_of}
+use Rattle.flat_scopes.proofs.Common.{◌≡◌, drop, first_taken, opened_of}
 use Rattle.flat_scopes.proofs.opening.Opening.first_taken.Given as goal
 
 abbrev pub invariant-loop-label : goal.invariant-loop-label

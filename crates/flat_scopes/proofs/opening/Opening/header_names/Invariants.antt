@@ -1,6 +1,4 @@
-use Rattle.std.proofs.Common.{◌≡◌, [], drop}
-use Rattle.flat_scopes.specs.Opens.{header_names}
-use Rattle.flat_scopes.specs.Views.{opened_of}
+use Rattle.flat_scopes.proofs.Common.{◌≡◌, [], drop, header_names, opened_of}
 use Rattle.flat_scopes.proofs.opening.Opening.header_names.Given as goal
 
 abbrev pub invariant-loop-name : goal.invariant-loop-name

@@ -1,6 +1,4 @@
-use Rattle.std.proofs.Common.{◌≡◌, true, drop}
-use Rattle.flat_scopes.specs.Insides.{instances}
-use Rattle.flat_scopes.specs.Views.{opened_of}
+use Rattle.flat_scopes.proofs.Common.{◌≡◌, true, drop, instances, opened_of}
 use Rattle.flat_scopes.proofs.opening.Opening.instances.Given as goal
 
 abbrev pub invariant-loop-instance : goal.invariant-loop-instance

@@ -1,9 +1,4 @@
-use Rattle.std.proofs.Common.{◌∙◌, ap}
-use Rattle.std.proofs.lemmas.Result.{IfOk-weaker}
-use Rattle.vlog_syntax.specs.declared.item.PlainItem.{PlainItem}
-use Rattle.flat_scopes.specs.declared.opening.Step.TheVariants.{Lists}
-use Rattle.flat_scopes.specs.Openings.{step}
-use Rattle.flat_scopes.specs.Views.{opened_of}
+use Rattle.flat_scopes.proofs.Common.{◌∙◌, ap, IfOk-weaker, PlainItem, Lists, step, opened_of}
 use Rattle.flat_scopes.proofs.opening.Opening.list.Goals as goal
 
 pub returns : goal.returns

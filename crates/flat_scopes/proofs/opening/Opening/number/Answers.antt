@@ -1,9 +1,4 @@
-use Rattle.std.proofs.Common.{◌∙◌, ℕ, ◌+◌, [], ◌∷◌, ◌++◌, ap}
-use Rattle.std.proofs.lemmas.Result.{IfOk-weaker}
-use Rattle.vlog_syntax.specs.declared.item.Item.{Item}
-use Rattle.flat_scopes.specs.declared.opening.Step.TheVariants.{Generates}
-use Rattle.flat_scopes.specs.Openings.{Opened}
-use Rattle.flat_scopes.specs.Views.{opened_of}
+use Rattle.flat_scopes.proofs.Common.{◌∙◌, ℕ, ◌+◌, [], ◌∷◌, ◌++◌, ap, IfOk-weaker, Item, Generates, Opened, opened_of}
 use Rattle.flat_scopes.proofs.opening.Opening.number.Goals as goal
 
 pub returns : goal.returns

@@ -1,7 +1,4 @@
-use Rattle.std.proofs.Common.{◌≡◌, drop}
-use Rattle.vlog_meaning.specs.Scopes.{names_of}
-use Rattle.flat_scopes.specs.Valued.{parameter_names}
-use Rattle.flat_scopes.specs.Views.{opened_of}
+use Rattle.flat_scopes.proofs.Common.{◌≡◌, drop, names_of, parameter_names, opened_of}
 use Rattle.flat_scopes.proofs.opening.Opening.parameters.Given as goal
 
 abbrev pub invariant-loop-assignment : goal.invariant-loop-assignment

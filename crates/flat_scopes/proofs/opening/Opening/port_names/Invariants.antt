@@ -1,6 +1,4 @@
-use Rattle.std.proofs.Common.{◌≡◌, drop}
-use Rattle.flat_scopes.specs.Openings.{port_names}
-use Rattle.flat_scopes.specs.Views.{opened_of}
+use Rattle.flat_scopes.proofs.Common.{◌≡◌, drop, port_names, opened_of}
 use Rattle.flat_scopes.proofs.opening.Opening.port_names.Given as goal
 
 abbrev pub invariant-loop-name : goal.invariant-loop-name

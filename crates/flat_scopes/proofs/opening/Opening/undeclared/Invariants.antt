@@ -1,6 +1,4 @@
-use Rattle.std.proofs.Common.{◌≡◌, ◌++◌, drop}
-use Rattle.flat_scopes.specs.Opens.{undeclared}
-use Rattle.flat_scopes.specs.Views.{opened_of}
+use Rattle.flat_scopes.proofs.Common.{◌≡◌, ◌++◌, drop, undeclared, opened_of}
 use Rattle.flat_scopes.proofs.opening.Opening.undeclared.Given as goal
 
 abbrev pub invariant-loop-name : goal.invariant-loop-name

@@ -1,4 +1,4 @@
-use Rattle.std.proofs.Common.{◌∙◌}
+use Rattle.flat_scopes.proofs.Common.{◌∙◌}
 use Rattle.flat_scopes.proofs.Owned.{looked_up}
 use Rattle.flat_scopes.proofs.own.OwnNames.get.Goals as goal
 

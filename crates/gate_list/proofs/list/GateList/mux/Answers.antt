@@ -1,7 +1,4 @@
-use Rattle.std.proofs.Common.{◌≡◌, subst, sym, if◌then◌else◌}
-use Rattle.std.proofs.lemmas.Result.{IfOk-weaker}
-use Rattle.gate_list.specs.Gates.{lit_value, Adds}
-use Rattle.gate_list.specs.Folding.{mux_of}
+use Rattle.gate_list.proofs.Common.{◌≡◌, subst, sym, if◌then◌else◌, IfOk-weaker, lit_value, Adds, mux_of}
 use Rattle.gate_list.proofs.Adding.{adds-mux}
 use Rattle.gate_list.proofs.list.GateList.mux.Goals as goal
 

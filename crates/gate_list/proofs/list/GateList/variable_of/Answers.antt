@@ -1,12 +1,6 @@
-use Rattle.std.proofs.Common.{arith, ◌≡◌, ◌<◌, ◌≤◌, ◌^◌, ◌∷◌, [], length, ℕ, suc, ◌+◌, Bool, true, false, List, ◌++◌, pos, refl, if◌then◌else◌}
-use Rattle.std.specs.List.{list_any, position_or_len}
-use Rattle.gate_list.specs.declared.gate.Gate.{Gate}
-use Rattle.std.proofs.lemmas.List.{length-append}
-use Rattle.gate_list.specs.declared.literal.GateLit.{GateLit}
+use Rattle.gate_list.proofs.Common.{arith, ◌≡◌, ◌<◌, ◌≤◌, ◌^◌, ◌∷◌, [], length, ℕ, suc, ◌+◌, Bool, true, false, List, ◌++◌, pos, refl, if◌then◌else◌, list_any, position_or_len, Gate, length-append}
+use Rattle.gate_list.proofs.Common.{GateLit, Reads, AreOrdered, same_gate, with_gate, eq-value}
 use Rattle.gate_list.specs.declared.literal.GateLit.TheVariants.{Var}
-use Rattle.gate_list.specs.Gates.{Reads, AreOrdered}
-use Rattle.gate_list.specs.Folding.{same_gate, with_gate}
-use Rattle.gate_list.specs.contracts.gate.GatePartialEq.TheImpl.{eq-value}
 use Rattle.gate_list.proofs.Same.{same-is, any-agree, position-agree}
 use Rattle.gate_list.proofs.Values.{ordered-push}
 use Rattle.gate_list.proofs.list.GateList.variable_of.Goals as goal

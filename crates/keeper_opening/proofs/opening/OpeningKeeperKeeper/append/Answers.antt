@@ -1,4 +1,4 @@
-use Rattle.mcy_keeper.specs.Books.{with_entry}
+use Rattle.keeper_opening.proofs.Common.{with_entry}
 use Rattle.keeper_opening.proofs.Opened.{either_after}
 use Rattle.keeper_opening.proofs.opening.OpeningKeeperKeeper.append.Goals as goal
 

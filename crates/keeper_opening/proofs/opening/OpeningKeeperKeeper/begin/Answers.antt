@@ -1,7 +1,4 @@
-use Rattle.std.proofs.Common.{subst}
-use Rattle.mcy_keeper.specs.declared.book.Book.{Book}
-use Rattle.mcy_keeper.specs.Books.{IsBlank, begun}
-use Rattle.keeper_opening.specs.Places.{PlaceHolds}
+use Rattle.keeper_opening.proofs.Common.{subst, Book, IsBlank, begun, PlaceHolds}
 use Rattle.keeper_opening.proofs.Opened.{either_after}
 use Rattle.keeper_opening.proofs.opening.OpeningKeeperKeeper.begin.Goals as goal
 

@@ -1,9 +1,6 @@
-use Rattle.std.proofs.Common.{rules, ◌≡◌, ◌∙◌, None, ap}
-use Rattle.std.specs.Option.{option_or}
-use Rattle.keeper_opening.specs.Places.{connection_of, noted_cause}
+use Rattle.keeper_opening.proofs.Common.{rules, ◌≡◌, ◌∙◌, None, ap, option_or, connection_of, noted_cause, Leaves}
 use Rattle.keeper_opening.proofs.Answered.{answers_after, noted_after, unanswered_after}
 use Rattle.keeper_opening.proofs.Opened.{allowed_before, refused_before, told_before}
-use Rattle.keeper_sqlite.specs.Stands.{Leaves}
 use Rattle.keeper_opening.proofs.opening.OpeningKeeperKeeper.load.Goals as goal
 
 pub returns-in-Err-clause-connected : goal.returns-in-Err-clause-connected

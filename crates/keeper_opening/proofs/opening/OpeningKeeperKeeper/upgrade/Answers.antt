@@ -1,7 +1,4 @@
-use Rattle.std.proofs.Common.{◌≡◌, length, subst}
-use Rattle.mcy_keeper.specs.declared.book.Book.{Book}
-use Rattle.mcy_keeper.specs.Books.{IsFirst, upgraded}
-use Rattle.keeper_opening.specs.Places.{PlaceHolds}
+use Rattle.keeper_opening.proofs.Common.{◌≡◌, length, subst, Book, IsFirst, upgraded, PlaceHolds}
 use Rattle.keeper_opening.proofs.Opened.{either_after}
 use Rattle.keeper_opening.proofs.opening.OpeningKeeperKeeper.upgrade.Goals as goal
 

@@ -1,6 +1,4 @@
-use Rattle.std.proofs.Common.{rules, ◌≡◌, true, sym, subst}
-use Rattle.mcy_keeper.specs.Books.{with_entry, Keeps, LeavesEither}
-use Rattle.keeper_sqlite.specs.Stands.{Tells, Holds, Leaves}
+use Rattle.keeper_sqlite.proofs.Common.{rules, ◌≡◌, true, sym, subst, with_entry, Keeps, LeavesEither, Tells, Holds, Leaves}
 use Rattle.keeper_sqlite.proofs.Answering.{done_write, fits_held, refused_write, written_done}
 use Rattle.keeper_sqlite.proofs.sql_keeper.SqlKeeperKeeper.append.Goals as goal
 

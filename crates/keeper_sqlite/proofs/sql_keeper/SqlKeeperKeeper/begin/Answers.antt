@@ -1,7 +1,4 @@
-use Rattle.std.proofs.Common.{rules, ◌≡◌, true, sym, subst}
-use Rattle.mcy_keeper.specs.Books.{begun, Keeps, LeavesEither}
-use Rattle.keeper_sqlite.specs.Rows.{table_of}
-use Rattle.keeper_sqlite.specs.Stands.{Tells, Holds, Leaves}
+use Rattle.keeper_sqlite.proofs.Common.{rules, ◌≡◌, true, sym, subst, begun, Keeps, LeavesEither, table_of, Tells, Holds, Leaves}
 use Rattle.keeper_sqlite.proofs.Answering.{done_write, refused_write, written_done}
 use Rattle.keeper_sqlite.proofs.sql_keeper.SqlKeeperKeeper.begin.Goals as goal
 

@@ -1,7 +1,4 @@
-use Rattle.std.proofs.Common.{rules, ◌≡◌, true, sym, subst}
-use Rattle.mcy_keeper.specs.Books.{upgraded, Keeps, LeavesEither}
-use Rattle.keeper_sqlite.specs.declared.read.JournalTable.TheVariants.{Second}
-use Rattle.keeper_sqlite.specs.Stands.{Tells, Holds, Leaves}
+use Rattle.keeper_sqlite.proofs.Common.{rules, ◌≡◌, true, sym, subst, upgraded, Keeps, LeavesEither, Second, Tells, Holds, Leaves}
 use Rattle.keeper_sqlite.proofs.Answering.{done_write, refused_write, written_done}
 use Rattle.keeper_sqlite.proofs.sql_keeper.SqlKeeperKeeper.upgrade.Goals as goal
 

@@ -1,6 +1,5 @@
-use Rattle.std.proofs.Common.{◌≡◌, ◌+◌, ◌-◌, ◌++◌, ◌∷◌, [], ℕ, Bool, List, Option, None, length, take, drop, replicate, ap, ◌∙◌, arith}
-use Rattle.std.proofs.lemmas.List.{length-replicate, length-drop, length_push, drop-append-le}
-use Rattle.lrat_checker.specs.LegalLogs.{GoesOnBy, Log}
+use Rattle.lrat_checker.proofs.Common.{◌≡◌, ◌+◌, ◌-◌, ◌++◌, ◌∷◌, [], ℕ, Bool, List, Option, None, length, take, drop, replicate, ap, ◌∙◌, arith, length-replicate, length-drop, length_push}
+use Rattle.lrat_checker.proofs.Common.{drop-append-le, GoesOnBy, Log}
 use Rattle.lrat_checker.proofs.Exact.{only_memory}
 use Rattle.lrat_checker.proofs.Logs.{over-push, log-push}
 use Rattle.lrat_checker.proofs.checker.Checker.add.Goals as goal

@@ -1,9 +1,4 @@
-use Rattle.std.proofs.Common.{◌≡◌, ◌++◌, ◌∷◌, [], ℤ, List, take, drop, length, sym, subst, refl, ap, ◌∙◌, arith}
-use Rattle.std.specs.Prelude.{IsTrue}
-use Rattle.std.proofs.lemmas.Bool.Decides.{Decides-eqb}
-use Rattle.std.proofs.lemmas.List.{same_from_push, nil_from_length}
-use Rattle.clause_store.specs.Clauses.{IsModel}
-use Rattle.lrat_checker.specs.LegalLogs.{Log, EndsEmpty}
+use Rattle.lrat_checker.proofs.Common.{◌≡◌, ◌++◌, ◌∷◌, [], ℤ, List, take, drop, length, sym, subst, refl, ap, ◌∙◌, arith, IsTrue, Decides-eqb, same_from_push, nil_from_length, IsModel, Log, EndsEmpty}
 use Rattle.lrat_checker.proofs.Logs.{last-dropped}
 use Rattle.lrat_checker.proofs.Sound.{refuted-no_model}
 use Rattle.lrat_checker.proofs.checker.Checker.refuted.Goals as goal

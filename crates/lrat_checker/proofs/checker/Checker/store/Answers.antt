@@ -1,7 +1,4 @@
-use Rattle.std.proofs.Common.{take, drop}
-use Rattle.clause_store.specs.Clauses.{IsModel}
-use Rattle.lrat_checker.specs.LegalLogs.{Log}
-use Rattle.std.proofs.Common.{subst}
+use Rattle.lrat_checker.proofs.Common.{take, drop, IsModel, Log, subst}
 use Rattle.lrat_checker.proofs.Sound.{log-true}
 use Rattle.lrat_checker.proofs.checker.Checker.store.Goals as goal
 

@@ -1,9 +1,4 @@
-use Rattle.std.proofs.Common.{◌≡◌, ◌<◌, ℤ, pos, true, false, length, get_or, sym, subst, arith, rules}
-use Rattle.std.specs.Prelude.{FitsSigned, Contains}
-use Rattle.std.specs.Int.{w32}
-use Rattle.std.proofs.lemmas.Bool.Decides.{nat_tests}
-use Rattle.std.proofs.lemmas.Int.{to_z-of_z}
-use Rattle.std.proofs.lemmas.List.Elements.{Contains-get_or}
+use Rattle.lrat_checker.proofs.Common.{◌≡◌, ◌<◌, ℤ, pos, true, false, length, get_or, sym, subst, arith, rules, FitsSigned, Contains, w32, nat_tests, to_z-of_z, Contains-get_or}
 use Rattle.lrat_checker.proofs.guards.Guards.add.Goals as goal
 
 pub returns-then-is_empty-clause-ok : goal.returns-then-is_empty-clause-ok

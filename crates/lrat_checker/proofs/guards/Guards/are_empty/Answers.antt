@@ -1,10 +1,4 @@
-use Rattle.std.proofs.Common.{◌≡◌, ℤ, pos, [], get_or, take, refl, subst, arith, rules}
-use Rattle.std.specs.Prelude.{FitsSigned}
-use Rattle.std.specs.Int.{w32}
-use Rattle.std.proofs.lemmas.Int.{to_z-of_z}
-use Rattle.std.proofs.lemmas.List.{take_all}
-use Rattle.std.proofs.lemmas.List.Elements.{All-more}
-use Rattle.lrat_checker.specs.Guards.{place_of, list_at, lists_of}
+use Rattle.lrat_checker.proofs.Common.{◌≡◌, ℤ, pos, [], get_or, take, refl, subst, arith, rules, FitsSigned, w32, to_z-of_z, take_all, All-more, place_of, list_at, lists_of}
 use Rattle.lrat_checker.proofs.guards.Guards.are_empty.Goals as goal
 
 pub loop-l-preserved : goal.loop-l-preserved

@@ -1,6 +1,4 @@
-use Rattle.std.proofs.Common.{◌≡◌, [], take}
-use Rattle.std.specs.Prelude.{All}
-use Rattle.lrat_checker.specs.Guards.{place_of, list_at, lists_of}
+use Rattle.lrat_checker.proofs.Common.{◌≡◌, [], take, All, place_of, list_at, lists_of}
 use Rattle.lrat_checker.proofs.guards.Guards.are_empty.Given as goal
 
 abbrev pub invariant-loop-l : goal.invariant-loop-l

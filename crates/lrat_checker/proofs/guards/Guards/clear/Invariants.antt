@@ -1,5 +1,4 @@
-use Rattle.std.proofs.Common.{drop}
-use Rattle.lrat_checker.specs.Guards.{AreGuarded}
+use Rattle.lrat_checker.proofs.Common.{drop, AreGuarded}
 use Rattle.lrat_checker.proofs.guards.Guards.clear.Given as goal
 
 abbrev pub invariant-loop-l : goal.invariant-loop-l

@@ -1,5 +1,4 @@
-use Rattle.std.proofs.Common.{◌<◌, drop, length}
-use Rattle.lrat_checker.specs.Guards.{AreGuarded}
+use Rattle.lrat_checker.proofs.Common.{◌<◌, drop, length, AreGuarded}
 use Rattle.lrat_checker.proofs.guards.Guards.clear_list.Given as goal
 
 abbrev pub invariant-loop-turn : goal.invariant-loop-turn

@@ -1,10 +1,4 @@
-use Rattle.std.proofs.Common.{◌≡◌, ◌<◌, ◌∙◌, ℕ, length, vec_len, sym, ap, arith, rules}
-use Rattle.std.specs.Prelude.{FitsSigned}
-use Rattle.std.specs.Int.{w32}
-use Rattle.std.proofs.lemmas.Bool.Decides.{Decides-eqb}
-use Rattle.std.proofs.lemmas.Int.{to_z-of_z}
-use Rattle.std.proofs.lemmas.List.{nil_from_length}
-use Rattle.lrat_checker.specs.Guards.{place_of, list_at, lists_of}
+use Rattle.lrat_checker.proofs.Common.{◌≡◌, ◌<◌, ◌∙◌, ℕ, length, vec_len, sym, ap, arith, rules, FitsSigned, w32, Decides-eqb, to_z-of_z, nil_from_length, place_of, list_at, lists_of}
 use Rattle.lrat_checker.proofs.Guarding.{list-at}
 use Rattle.lrat_checker.proofs.guards.Guards.is_empty.Goals as goal
 

@@ -1,5 +1,4 @@
-use Rattle.std.proofs.Common.{◌≡◌, ◌-◌, ◌∙◌, ℕ, List, Some, length, slice_get, sym, subst}
-use Rattle.lrat_checker.specs.Guards.{list_at, lists_of}
+use Rattle.lrat_checker.proofs.Common.{◌≡◌, ◌-◌, ◌∙◌, ℕ, List, Some, length, slice_get, sym, subst, list_at, lists_of}
 use Rattle.lrat_checker.proofs.Guarding.{list-at}
 use Rattle.lrat_checker.proofs.guards.Guards.move_last.Goals as goal
 

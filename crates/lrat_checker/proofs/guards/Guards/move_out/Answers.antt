@@ -1,7 +1,4 @@
-use Rattle.std.proofs.Common.{ℤ, [], drop, get_or, sym, subst, rules}
-use Rattle.std.specs.Prelude.{FitsSigned, Contains}
-use Rattle.std.specs.Int.{w32}
-use Rattle.std.proofs.lemmas.Int.{to_z-of_z}
+use Rattle.lrat_checker.proofs.Common.{ℤ, [], drop, get_or, sym, subst, rules, FitsSigned, Contains, w32, to_z-of_z}
 use Rattle.lrat_checker.proofs.Guarding.{lemma-holds}
 use Rattle.lrat_checker.proofs.guards.Guards.move_out.Goals as goal
 

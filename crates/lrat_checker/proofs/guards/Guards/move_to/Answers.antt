@@ -1,9 +1,4 @@
-use Rattle.std.proofs.Common.{◌≡◌, ◌<◌, ◌∙◌, length, map, arith, rules}
-use Rattle.std.specs.Prelude.{FitsSigned}
-use Rattle.std.specs.Int.{w32}
-use Rattle.std.proofs.lemmas.Int.{to_z-of_z}
-use Rattle.std.proofs.lemmas.List.{length-map}
-use Rattle.lrat_checker.specs.Guards.{place_of, lists_of, moved}
+use Rattle.lrat_checker.proofs.Common.{◌≡◌, ◌<◌, ◌∙◌, length, map, arith, rules, FitsSigned, w32, to_z-of_z, length-map, place_of, lists_of, moved}
 use Rattle.lrat_checker.proofs.Guarding.{are-same, are-moved}
 use Rattle.lrat_checker.proofs.guards.Guards.move_to.Goals as goal
 

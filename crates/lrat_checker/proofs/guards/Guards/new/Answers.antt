@@ -1,4 +1,4 @@
-use Rattle.std.proofs.Common.{arith}
+use Rattle.lrat_checker.proofs.Common.{arith}
 use Rattle.lrat_checker.proofs.guards.Guards.new.Goals as goal
 
 pub returns : goal.returns

@@ -1,10 +1,4 @@
-use Rattle.std.proofs.Common.{◌≡◌, ◌<◌, ◌++◌, ◌∷◌, ◌∙◌, [], true, false, length, ap, arith, rules}
-use Rattle.std.specs.Prelude.{FitsSigned}
-use Rattle.std.specs.Int.{w32}
-use Rattle.std.proofs.Math.Seq.{map-set_same}
-use Rattle.std.proofs.lemmas.Int.{to_z-of_z}
-use Rattle.std.proofs.lemmas.List.{length-map}
-use Rattle.lrat_checker.specs.Guards.{place_of, lists_of}
+use Rattle.lrat_checker.proofs.Common.{◌≡◌, ◌<◌, ◌++◌, ◌∷◌, ◌∙◌, [], true, false, length, ap, arith, rules, FitsSigned, w32, map-set_same, to_z-of_z, length-map, place_of, lists_of}
 use Rattle.lrat_checker.proofs.Guarding.{list-changed, are-same, are-kept, are-pushed}
 use Rattle.lrat_checker.proofs.guards.Guards.put.Goals as goal
 

@@ -1,5 +1,4 @@
-use Rattle.std.proofs.Common.{◌≡◌, Bool, [], length, Option, arith, ap, ◌∙◌}
-use Rattle.lrat_checker.specs.Tables.{AreListed}
+use Rattle.lrat_checker.proofs.Common.{◌≡◌, Bool, [], length, Option, arith, ap, ◌∙◌, AreListed}
 use Rattle.lrat_checker.proofs.Listing.{listed-none}
 use Rattle.lrat_checker.proofs.trail.Trail.clear.Goals as goal
 

@@ -1,4 +1,4 @@
-use Rattle.std.proofs.Common.{◌<◌, length, rules}
+use Rattle.lrat_checker.proofs.Common.{◌<◌, length, rules}
 use Rattle.lrat_checker.proofs.Listing.{listed-push}
 use Rattle.lrat_checker.proofs.trail.Trail.set.Goals as goal
 

@@ -1,17 +1,8 @@
-use Rattle.std.proofs.Common.{◌≡◌, ℕ, List, Option, None, Some, subst, inl, refl, sym, ◌∙◌, Result, OnErr}
-use Rattle.mcy_keeper.specs.declared.book.Entry.{Entry}
-use Rattle.mcy_keeper.specs.declared.keeper.KeepError.{KeepError}
-use Rattle.mcy_keeper.specs.Books.{blank, LeavesEither}
-use Rattle.campaign_run.specs.Changes.{opened}
-use Rattle.command_words.specs.declared.command.Command.TheVariants.{Run}
-use Rattle.campaign_run.specs.Running.{book_of}
+use Rattle.mcy_top.proofs.Common.{◌≡◌, ℕ, List, Option, None, Some, subst, inl, refl, sym, ◌∙◌, Result, OnErr, Entry, KeepError, blank, LeavesEither, opened, Run, book_of, HasNamed, Work, plan_fit}
+use Rattle.mcy_top.proofs.Common.{Memory}
 use Rattle.mcy_top.specs.declared.refusal.BookRefusal.TheVariants.{NoMutation}
-use Rattle.mcy_top.specs.BookRefusals.{HasNamed}
-use Rattle.mcy_top.specs.Life.{Work}
-use Rattle.campaign_plan.proofs.Plans.{plan_fit}
 use Rattle.mcy_top.proofs.Kept.{begin_left, work_kept, work_refused, work_unopened}
 use Rattle.mcy_top.proofs.Working.{work_opened}
-use Rattle.campaign_outcomes.specs.declared.outcome.Outcome.TheVariants.{Memory}
 use Rattle.mcy_top.proofs.work.Task.begin_and_run.Goals as goal
 
 -- no number is one that the campaign lacks

@@ -1,4 +1,4 @@
-use Rattle.campaign_plan.proofs.Plans.{plan_fit}
+use Rattle.mcy_top.proofs.Common.{plan_fit}
 use Rattle.mcy_top.proofs.work.Task.falls_short.Goals as goal
 
 pub are_finished-requires-clause-fit : goal.are_finished-requires-clause-fit

@@ -1,8 +1,5 @@
-use Rattle.std.proofs.Common.{◌≡◌}
-use Rattle.command_words.specs.declared.command.Command.TheVariants.{Init}
+use Rattle.mcy_top.proofs.Common.{◌≡◌, Init, Command, Work}
 use Rattle.mcy_top.specs.declared.refusal.BookRefusal.TheVariants.{AlreadyBegun}
-use Rattle.command_words.specs.declared.command.Command.{Command}
-use Rattle.mcy_top.specs.Life.{Work}
 use Rattle.mcy_top.proofs.Aiming.{run_runs, run_so, tells_only}
 use Rattle.mcy_top.proofs.Kept.{work_refused}
 use Rattle.mcy_top.proofs.work.Task.go_on.Goals as goal

@@ -1,10 +1,4 @@
-use Rattle.std.proofs.Common.{◌∙◌, ℕ, List, subst, refl, Result, OnErr}
-use Rattle.mcy_keeper.specs.declared.keeper.KeepError.{KeepError}
-use Rattle.mcy_keeper.specs.Books.{blank, LeavesEither}
-use Rattle.campaign_run.specs.Changes.{opened}
-use Rattle.command_words.specs.declared.command.Command.TheVariants.{Init}
-use Rattle.mcy_top.specs.declared.ending.Ending.TheVariants.{NoMemory}
-use Rattle.mcy_top.specs.Endings.{Delivers}
+use Rattle.mcy_top.proofs.Common.{◌∙◌, ℕ, List, subst, refl, Result, OnErr, KeepError, blank, LeavesEither, opened, Init, NoMemory, Delivers}
 use Rattle.mcy_top.proofs.Kept.{begin_left, work_init, work_unopened}
 use Rattle.mcy_top.proofs.work.Task.init.Goals as goal
 

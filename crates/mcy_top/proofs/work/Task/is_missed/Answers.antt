@@ -1,4 +1,4 @@
-use Rattle.campaign_plan.proofs.Plans.{plan_fit}
+use Rattle.mcy_top.proofs.Common.{plan_fit}
 use Rattle.mcy_top.proofs.work.Task.is_missed.Goals as goal
 
 pub is_met-requires-clause-fit : goal.is_met-requires-clause-fit

@@ -1,6 +1,4 @@
-use Rattle.std.proofs.Common.{length, ap, arith, ◌∙◌}
-use Rattle.result_book.specs.Goals.{first_unnamed}
-use Rattle.campaign_plan.proofs.Plans.{plan_fit}
+use Rattle.mcy_top.proofs.Common.{length, ap, arith, ◌∙◌, first_unnamed, plan_fit}
 use Rattle.mcy_top.proofs.work.Task.lacking.Goals as goal
 
 pub overflow_cast-mutations : goal.overflow_cast-mutations

@@ -1,4 +1,4 @@
-use Rattle.campaign_plan.proofs.Plans.{plan_fit}
+use Rattle.mcy_top.proofs.Common.{plan_fit}
 use Rattle.mcy_top.proofs.work.Task.list.Goals as goal
 
 pub list_text-requires-clause-fit : goal.list_text-requires-clause-fit

@@ -1,4 +1,4 @@
-use Rattle.campaign_plan.proofs.Plans.{plan_fit}
+use Rattle.mcy_top.proofs.Common.{plan_fit}
 use Rattle.mcy_top.proofs.work.Task.misses.Goals as goal
 
 pub has_faults-requires-clause-fit : goal.has_faults-requires-clause-fit

@@ -1,6 +1,4 @@
-use Rattle.std.proofs.Common.{arith}
-use Rattle.campaign_plan.proofs.Plans.{plan_fit}
-use Rattle.campaign_plan.proofs.Plans.{plan_items}
+use Rattle.mcy_top.proofs.Common.{arith, plan_fit, plan_items}
 use Rattle.mcy_top.proofs.work.Task.read_state.Goals as goal
 
 pub check_book-requires-clause-fit : goal.check_book-requires-clause-fit

@@ -1,5 +1,4 @@
-use Rattle.std.proofs.Common.{◌∙◌, inr, sym}
-use Rattle.std.proofs.lemmas.Result.{err_from_is_err_and}
+use Rattle.mcy_top.proofs.Common.{◌∙◌, inr, sym, err_from_is_err_and}
 use Rattle.mcy_top.proofs.Working.{runs_not_init}
 use Rattle.mcy_top.proofs.work.Task.ready.Goals as goal
 

@@ -1,4 +1,4 @@
-use Rattle.campaign_plan.proofs.Plans.{plan_fit}
+use Rattle.mcy_top.proofs.Common.{plan_fit}
 use Rattle.mcy_top.proofs.work.Task.report.Goals as goal
 
 pub status_text-requires-clause-fit : goal.status_text-requires-clause-fit

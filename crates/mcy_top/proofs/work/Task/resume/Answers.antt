@@ -1,12 +1,4 @@
-use Rattle.std.proofs.Common.{◌≡◌, ◌∙◌, List, ap, sym, subst}
-use Rattle.mcy_keeper.specs.declared.book.Book.{Book}
-use Rattle.mcy_keeper.specs.declared.book.Entry.{Entry}
-use Rattle.mcy_keeper.specs.Books.{Keeps}
-use Rattle.result_book.specs.Rows.{history}
-use Rattle.result_book.specs.States.{IsStateOf}
-use Rattle.command_words.specs.declared.command.Command.TheVariants.{Run}
-use Rattle.campaign_run.specs.Running.{book_of}
-use Rattle.mcy_top.specs.Life.{Work}
+use Rattle.mcy_top.proofs.Common.{◌≡◌, ◌∙◌, List, ap, sym, subst, Book, Entry, Keeps, history, IsStateOf, Run, book_of, Work}
 use Rattle.mcy_top.proofs.Upgrading.{history_book, work_resumed, work_unmoved}
 use Rattle.mcy_top.proofs.Kept.{work_refused}
 use Rattle.mcy_top.proofs.work.Task.resume.Goals as goal

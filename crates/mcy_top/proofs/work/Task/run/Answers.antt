@@ -1,10 +1,4 @@
-use Rattle.std.proofs.Common.{refl, None}
-use Rattle.campaign_outcomes.specs.declared.outcome.Outcome.TheVariants.{Memory}
-use Rattle.command_words.specs.declared.command.Command.TheVariants.{Run}
-use Rattle.source_report.specs.Texts.{status_text}
-use Rattle.campaign_plan.proofs.Plans.{plan_fit}
-use Rattle.campaign_run.specs.Running.{book_of}
-use Rattle.mcy_top.specs.Endings.{run_outcome}
+use Rattle.mcy_top.proofs.Common.{refl, None, Memory, Run, status_text, plan_fit, book_of, run_outcome}
 use Rattle.mcy_top.proofs.Runs.{begins, state_is, work_torn, work_turned, Begins}
 use Rattle.mcy_top.proofs.Kept.{work_kept}
 use Rattle.mcy_top.proofs.Working.{ending_ends, run_carried}

@@ -1,4 +1,4 @@
-use Rattle.std.proofs.Common.{◌∙◌, sym}
+use Rattle.mcy_top.proofs.Common.{◌∙◌, sym}
 use Rattle.mcy_top.proofs.Counting.{outcome_none}
 use Rattle.mcy_top.proofs.work.Task.run_outcome.Goals as goal
 

@@ -1,4 +1,4 @@
-use Rattle.std.proofs.Common.{◌∙◌, inl, inr, sym}
+use Rattle.mcy_top.proofs.Common.{◌∙◌, inl, inr, sym}
 use Rattle.mcy_top.proofs.work.Task.run_takes.Goals as goal
 
 -- the empty book

@@ -1,11 +1,5 @@
-use Rattle.std.proofs.Common.{ℕ, List, subst, sym}
-use Rattle.mcy_keeper.specs.declared.book.Entry.{Entry}
-use Rattle.result_book.specs.Rows.{groups}
-use Rattle.mcy_top.specs.Endings.{done_outcome, Delivers}
-use Rattle.mcy_top.specs.Requirements.{misses}
+use Rattle.mcy_top.proofs.Common.{ℕ, List, subst, sym, Entry, groups, done_outcome, Delivers, misses, book_of, text_of}
 use Rattle.mcy_top.proofs.Doing.{done_carried}
-use Rattle.campaign_run.specs.Running.{book_of}
-use Rattle.mcy_top.specs.Texts.{text_of}
 use Rattle.mcy_top.proofs.Kept.{misses_history, reads_not_init, text_of_history, work_refused, work_told}
 use Rattle.mcy_top.proofs.Working.{ending_ends}
 use Rattle.mcy_top.proofs.work.Task.show.Goals as goal

@@ -1,4 +1,4 @@
-use Rattle.campaign_plan.proofs.Plans.{plan_fit}
+use Rattle.mcy_top.proofs.Common.{plan_fit}
 use Rattle.mcy_top.proofs.work.Task.show_source.Goals as goal
 
 pub source_text-requires-clause-fit : goal.source_text-requires-clause-fit

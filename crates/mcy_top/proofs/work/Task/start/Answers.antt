@@ -1,8 +1,5 @@
-use Rattle.std.proofs.Common.{refl}
-use Rattle.mcy_keeper.specs.Books.{blank}
+use Rattle.mcy_top.proofs.Common.{refl, blank, Command, Work}
 use Rattle.mcy_top.specs.declared.refusal.BookRefusal.TheVariants.{NoCampaign}
-use Rattle.command_words.specs.declared.command.Command.{Command}
-use Rattle.mcy_top.specs.Life.{Work}
 use Rattle.mcy_top.proofs.Aiming.{run_runs, run_so, tells_only}
 use Rattle.mcy_top.proofs.Kept.{work_refused}
 use Rattle.mcy_top.proofs.work.Task.start.Goals as goal

@@ -1,14 +1,6 @@
-use Rattle.std.proofs.Common.{◌≡◌, ◌⊎◌, inl, inr, ℕ, Bool, Option, ap, subst}
-use Rattle.mcy_keeper.specs.declared.book.Book.{Book}
+use Rattle.mcy_top.proofs.Common.{◌≡◌, ◌⊎◌, inl, inr, ℕ, Bool, Option, ap, subst, Book, status_text, Command, Init, Run, Status, Baseline, Demo, Prepared, OnlyReads, book_of, text_of}
 use Rattle.source_report.specs.Lists.{list_text}
 use Rattle.source_report.specs.Sources.{source_text}
-use Rattle.source_report.specs.Texts.{status_text}
-use Rattle.command_words.specs.declared.command.Command.{Command}
-use Rattle.command_words.specs.declared.command.Command.TheVariants.{Init, Run, Status, Baseline, Demo}
-use Rattle.campaign_plan.specs.declared.prepared.Prepared.{Prepared}
-use Rattle.mcy_top.specs.Commands.{OnlyReads}
-use Rattle.campaign_run.specs.Running.{book_of}
-use Rattle.mcy_top.specs.Texts.{text_of}
 use Rattle.mcy_top.proofs.work.Task.tell.Goals as goal
 
 pub returns-in-List-clause-wrote : goal.returns-in-List-clause-wrote

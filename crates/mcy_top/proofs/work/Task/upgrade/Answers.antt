@@ -1,9 +1,4 @@
-use Rattle.std.proofs.Common.{◌≡◌, ◌∙◌, true, false, length, ap, sym, subst, inl}
-use Rattle.std.proofs.lemmas.List.{length-map}
-use Rattle.std.proofs.lemmas.Result.{err_from_is_err_and}
-use Rattle.mcy_keeper.specs.declared.book.Book.{Book}
-use Rattle.mcy_keeper.specs.Books.{IsFirst, Keeps}
-use Rattle.result_book.specs.Rows.{bound_of}
+use Rattle.mcy_top.proofs.Common.{◌≡◌, ◌∙◌, true, false, length, ap, sym, subst, inl, length-map, err_from_is_err_and, Book, IsFirst, Keeps, bound_of}
 use Rattle.mcy_top.proofs.Upgrading.{history_same, upgrade_kept, upgrade_left}
 use Rattle.mcy_top.proofs.work.Task.upgrade.Goals as goal
 

@@ -1,6 +1,4 @@
-use Rattle.std.proofs.Common.{◌≡◌, ◌∙◌, ◌≤◌, ℕ, length, ap, sym, arith}
-use Rattle.campaign_plan.proofs.Plans.{plan_fit}
-use Rattle.mcy_top.specs.Life.{wanting_from}
+use Rattle.mcy_top.proofs.Common.{◌≡◌, ◌∙◌, ◌≤◌, ℕ, length, ap, sym, arith, plan_fit, wanting_from}
 use Rattle.mcy_top.proofs.Counting.{count_none, count_some, counted_few}
 use Rattle.mcy_top.proofs.work.Task.wanting.Goals as goal
 use Rattle.mcy_top.proofs.work.Task.wanting.Goals.{then-is_some, else-is_some}

@@ -1,5 +1,4 @@
-use Rattle.std.proofs.Common.{◌≡◌}
-use Rattle.mcy_top.specs.Life.{wanting_from}
+use Rattle.mcy_top.proofs.Common.{◌≡◌, wanting_from}
 use Rattle.mcy_top.proofs.work.Task.wanting.Given as goal
 
 abbrev pub invariant-loop-mutation : goal.invariant-loop-mutation

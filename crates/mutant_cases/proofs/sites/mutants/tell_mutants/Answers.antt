@@ -1,4 +1,4 @@
-use Rattle.std.proofs.Common.{◌≤◌, ◌+◌, length, arith}
+use Rattle.std.proofs.Common.{arith}
 use Rattle.mutant_cases.proofs.Small.{few-bits}
 use Rattle.mutant_cases.proofs.sites.mutants.tell_mutants.Goals as goal
 

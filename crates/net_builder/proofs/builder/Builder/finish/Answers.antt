@@ -1,15 +1,5 @@
-use Rattle.std.proofs.Common.{◌≡◌, ◌↔◌, ℕ, List, map, length, sym, ◌∙◌, ap, subst}
-use Rattle.mcy_base.specs.declared.word.Word.{Word}
-use Rattle.netlist_core.specs.declared.bit.Bit.{Bit}
-use Rattle.netlist_core.specs.declared.cell.Cell.{Cell}
-use Rattle.netlist_core.specs.declared.port.Port.{Port}
-use Rattle.netlist_core.specs.declared.port.Register.{Register}
-use Rattle.netlist_core.specs.Runs.{bits_at}
-use Rattle.net_builder.specs.declared.steps.Step.{Step}
-use Rattle.net_builder.specs.Building.{Building, start_numbers}
-use Rattle.net_builder.specs.Finished.{LeadsTo, IsStuck, step_of, led_cell, led_register, led_port}
-use Rattle.net_builder.specs.Stepping.{next_in}
-use Rattle.net_builder.specs.Tracing.{known_of, end_in}
+use Rattle.net_builder.proofs.Common.{◌≡◌, ◌↔◌, ℕ, List, map, length, sym, ◌∙◌, ap, subst, Word, Bit, Cell, Port, Register, bits_at, Step, Building, numbers_of, LeadsTo, IsStuck, step_of, led_cell}
+use Rattle.net_builder.proofs.Common.{led_register, led_port, next_in, known_of, end_in}
 use Rattle.net_builder.proofs.Laying.{laid_are}
 use Rattle.net_builder.proofs.Starting.{starts_counted}
 use Rattle.net_builder.proofs.Handed.{same_err}
@@ -27,7 +17,7 @@ returns-in_err-trace-clause-loops c =
     let steps : next_in c.in_ok-steps.steps ≡ step_of b (bits_at c.args.inputs.items) =
     laid_are b c.args.inputs.items c.deref-3.result.now c.in_ok-steps.steps c.deref.result.now c.deref-2.result.now c.deref-4.result.now c.deref-5.result.now
     (c.deref.ensures.value ∙ ap (λ (x : Building). x.signals) c.self.view_is)
-    (ap start_numbers c.deref-2.ensures.value ∙ ap (λ (x : Building). x.starts) c.self.view_is)
+    (ap numbers_of c.deref-2.ensures.value ∙ ap (λ (x : Building). x.starts) c.self.view_is)
     c.deref-3.ensures.value
     (c.deref-4.ensures.value ∙ ap (λ (x : Building). x.registers) c.self.view_is)
     (c.deref-5.ensures.value ∙ ap (λ (x : Building). x.joints) c.self.view_is)
@@ -42,7 +32,7 @@ returns-clause-finished c =
     let steps : next_in c.in_ok-steps.steps ≡ step_of b (bits_at c.args.inputs.items) =
     laid_are b c.args.inputs.items c.deref-3.result.now c.in_ok-steps.steps c.deref.result.now c.deref-2.result.now c.deref-4.result.now c.deref-5.result.now
     (c.deref.ensures.value ∙ ap (λ (x : Building). x.signals) c.self.view_is)
-    (ap start_numbers c.deref-2.ensures.value ∙ ap (λ (x : Building). x.starts) c.self.view_is)
+    (ap numbers_of c.deref-2.ensures.value ∙ ap (λ (x : Building). x.starts) c.self.view_is)
     c.deref-3.ensures.value
     (c.deref-4.ensures.value ∙ ap (λ (x : Building). x.registers) c.self.view_is)
     (c.deref-5.ensures.value ∙ ap (λ (x : Building). x.joints) c.self.view_is)

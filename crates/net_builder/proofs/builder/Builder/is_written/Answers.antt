@@ -1,8 +1,4 @@
-use Rattle.std.proofs.Common.{ℕ, ◌∙◌, ap, refl}
-use Rattle.std.proofs.lemmas.Bool.{false≢true}
-use Rattle.net_builder.specs.declared.writers.Writer.{Writer}
-use Rattle.net_builder.specs.Building.{Building}
-use Rattle.net_builder.specs.Written.{writer_of}
+use Rattle.net_builder.proofs.Common.{ℕ, ◌∙◌, ap, refl, false≢true, Writer, Building, writer_of}
 use Rattle.net_builder.proofs.Writing.{told_written}
 use Rattle.net_builder.proofs.builder.Builder.is_written.Goals as goal
 

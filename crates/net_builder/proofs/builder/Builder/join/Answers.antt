@@ -1,6 +1,4 @@
-use Rattle.std.proofs.Common.{List, sym, ◌∙◌, ap}
-use Rattle.net_builder.specs.declared.builder.Joint.{Joint}
-use Rattle.net_builder.specs.Written.{writer_of, after_joint}
+use Rattle.net_builder.proofs.Common.{List, sym, ◌∙◌, ap, Joint, writer_of, after_joint}
 use Rattle.net_builder.proofs.Writing.{joint_added}
 use Rattle.net_builder.proofs.builder.Builder.join.Goals as goal
 

@@ -1,7 +1,4 @@
-use Rattle.std.proofs.Common.{ℕ, ◌∙◌, ap, sym}
-use Rattle.net_builder.specs.declared.writers.Writer.{Writer}
-use Rattle.net_builder.specs.Building.{Building}
-use Rattle.net_builder.specs.Written.{writer_of}
+use Rattle.net_builder.proofs.Common.{ℕ, ◌∙◌, ap, sym, Writer, Building, writer_of}
 use Rattle.net_builder.proofs.Writing.{told_joined, told_free, joint_found, joint_none}
 use Rattle.net_builder.proofs.builder.Builder.joined.Goals as goal
 

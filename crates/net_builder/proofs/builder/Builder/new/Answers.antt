@@ -1,7 +1,4 @@
-use Rattle.std.proofs.Common.{◌≡◌, ◌∙◌, ap, length, map, refl, sym, arith}
-use Rattle.netlist_core.specs.declared.bit.Bit.{Bit}
-use Rattle.net_builder.specs.Building.{own_bits, word_widths}
-use Rattle.net_builder.specs.Written.{no_writers, writer_of}
+use Rattle.net_builder.proofs.Common.{◌≡◌, ◌∙◌, ap, length, map, refl, sym, arith, Bit, own_bits, word_widths, no_writers, writer_of}
 use Rattle.net_builder.proofs.builder.Builder.new.Goals as goal
 
 pub invariant_of-result : goal.invariant_of-result

@@ -1,7 +1,4 @@
-use Rattle.std.proofs.Common.{◌≡◌, List, sym, ◌∙◌, ap}
-use Rattle.netlist_core.specs.declared.bit.Bit.{Bit}
-use Rattle.netlist_core.specs.declared.port.Register.{Register}
-use Rattle.net_builder.specs.Written.{writers_of, writer_of, after_stores}
+use Rattle.net_builder.proofs.Common.{◌≡◌, List, sym, ◌∙◌, ap, Bit, Register, writers_of, writer_of, after_stores}
 use Rattle.net_builder.proofs.Writing.{register_added}
 use Rattle.net_builder.proofs.builder.Builder.register.Goals as goal
 

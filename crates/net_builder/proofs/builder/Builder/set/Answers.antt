@@ -1,5 +1,4 @@
-use Rattle.std.proofs.Common.{◌≡◌, length, get_or, [], arith}
-use Rattle.std.proofs.lemmas.List.{length-set}
+use Rattle.net_builder.proofs.Common.{◌≡◌, length, get_or, [], arith, length-set}
 use Rattle.net_builder.proofs.Starting.{widths_other}
 use Rattle.net_builder.proofs.builder.Builder.set.Goals as goal
 

@@ -1,7 +1,4 @@
-use Rattle.std.proofs.Common.{◌≡◌, ◌<◌, ℕ, List, length, get_or, [], ◌∙◌, ap}
-use Rattle.std.proofs.lemmas.List.{map-set}
-use Rattle.mcy_base.specs.declared.word.Word.{Word}
-use Rattle.net_builder.specs.Building.{Building, start_numbers, with_start}
+use Rattle.net_builder.proofs.Common.{◌≡◌, ◌<◌, ℕ, List, length, get_or, [], ◌∙◌, ap, map-set, Word, Building, numbers_of, with_start}
 use Rattle.net_builder.proofs.Starting.{widths_start}
 use Rattle.net_builder.proofs.builder.Builder.set_start.Goals as goal
 
@@ -14,5 +11,5 @@ invariant_of-self c =
 
 pub returns : goal.returns
 returns c =
-    let v : Building = record { cells = c.self.inside.cells.items; joints = c.self.inside.joints.items; registers = c.self.inside.registers.items; declared = c.self.inside.declared.items; signals = c.self.inside.signals.items; starts = start_numbers c.self.inside.starts.items; nets = c.self.inside.nets } in
+    let v : Building = record { cells = c.self.inside.cells.items; joints = c.self.inside.joints.items; registers = c.self.inside.registers.items; declared = c.self.inside.declared.items; signals = c.self.inside.signals.items; starts = numbers_of c.self.inside.starts.items; nets = c.self.inside.nets } in
     ap (λ (starts : List ℕ). record v { starts = starts }) (map-set (λ (w : Word). w.bits) c.self.inside.starts.items c.args.number c.args.start) ∙ ap (with_start c.args.number c.args.start.bits) c.self.view_is

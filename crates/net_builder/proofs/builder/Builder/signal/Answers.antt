@@ -1,5 +1,4 @@
-use Rattle.std.proofs.Common.{◌≡◌, ◌+◌, ◌≤◌, length, sym, ◌∙◌, ap, arith}
-use Rattle.net_builder.specs.Building.{own_bits}
+use Rattle.net_builder.proofs.Common.{◌≡◌, ◌+◌, ◌≤◌, length, sym, ◌∙◌, ap, arith, own_bits}
 use Rattle.net_builder.proofs.Parts.{signal_pushed, bits_pushed, length_fresh}
 use Rattle.net_builder.proofs.Starting.{widths_pushed}
 use Rattle.net_builder.proofs.builder.Builder.signal.Goals as goal

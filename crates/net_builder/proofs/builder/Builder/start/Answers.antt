@@ -1,6 +1,4 @@
-use Rattle.std.proofs.Common.{◌<◌, length, ◌∙◌, ap}
-use Rattle.mcy_base.specs.declared.word.Word.{Word}
-use Rattle.net_builder.specs.Building.{Building, signal}
+use Rattle.net_builder.proofs.Common.{◌<◌, length, ◌∙◌, ap, Word, Building, signal}
 use Rattle.net_builder.proofs.Starting.{widths_at}
 use Rattle.net_builder.proofs.builder.Builder.start.Goals as goal
 

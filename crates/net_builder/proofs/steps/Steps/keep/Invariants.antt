@@ -1,5 +1,4 @@
-use Rattle.std.proofs.Common.{◌≡◌, drop}
-use Rattle.net_builder.specs.Stepping.{next_in, after_kept}
+use Rattle.net_builder.proofs.Common.{◌≡◌, drop, next_in, after_kept}
 use Rattle.net_builder.proofs.steps.Steps.keep.Given as goal
 
 abbrev pub invariant-loop-bit : goal.invariant-loop-bit

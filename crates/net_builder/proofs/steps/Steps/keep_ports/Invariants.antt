@@ -1,6 +1,4 @@
-use Rattle.std.proofs.Common.{◌≡◌, drop}
-use Rattle.netlist_core.specs.Runs.{bits_at}
-use Rattle.net_builder.specs.Stepping.{next_in, after_all_kept}
+use Rattle.net_builder.proofs.Common.{◌≡◌, drop, bits_at, next_in, after_all_kept}
 use Rattle.net_builder.proofs.steps.Steps.keep_ports.Given as goal
 
 abbrev pub invariant-loop-port : goal.invariant-loop-port

@@ -1,6 +1,4 @@
-use Rattle.std.proofs.Common.{◌≡◌, drop}
-use Rattle.netlist_core.specs.Runs.{q_bits}
-use Rattle.net_builder.specs.Stepping.{next_in, after_all_kept}
+use Rattle.net_builder.proofs.Common.{◌≡◌, drop, q_bits, next_in, after_all_kept}
 use Rattle.net_builder.proofs.steps.Steps.keep_registers.Given as goal
 
 abbrev pub invariant-loop-register : goal.invariant-loop-register

@@ -1,6 +1,4 @@
-use Rattle.std.proofs.Common.{◌≡◌, ◌+◌, ◌<◌, ◌∙◌, ap, length, arith}
-use Rattle.std.proofs.lemmas.List.{length-append}
-use Rattle.net_builder.specs.Stepping.{next_in, with_step}
+use Rattle.net_builder.proofs.Common.{◌≡◌, ◌+◌, ◌<◌, ◌∙◌, ap, length, arith, length-append, next_in, with_step}
 use Rattle.net_builder.proofs.Laying.{push_step, set_step}
 use Rattle.net_builder.proofs.steps.Steps.lay.Goals as goal
 

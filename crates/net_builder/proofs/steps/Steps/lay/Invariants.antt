@@ -1,5 +1,4 @@
-use Rattle.std.proofs.Common.{◌≡◌, ◌≤◌, ◌^◌, length, ◌+◌, ◌-◌, vec_len}
-use Rattle.net_builder.specs.Stepping.{next_in}
+use Rattle.net_builder.proofs.Common.{◌≡◌, ◌≤◌, ◌^◌, length, ◌+◌, ◌-◌, vec_len, next_in}
 use Rattle.net_builder.proofs.steps.Steps.lay.Given as goal
 
 abbrev pub invariant-loop-self : goal.invariant-loop-self

@@ -1,5 +1,4 @@
-use Rattle.std.proofs.Common.{◌≡◌, ◌≤◌, length, drop}
-use Rattle.net_builder.specs.Stepping.{next_in, after_joints}
+use Rattle.net_builder.proofs.Common.{◌≡◌, ◌≤◌, length, drop, next_in, after_joints}
 use Rattle.net_builder.proofs.steps.Steps.lay_joints.Given as goal
 
 abbrev pub invariant-loop-left : goal.invariant-loop-left

@@ -1,6 +1,4 @@
-use Rattle.std.proofs.Common.{◌≡◌, inl, inr, sym, ◌∙◌}
-use Rattle.net_builder.specs.declared.tracing.Mark.TheVariants.{Loops}
-use Rattle.net_builder.specs.Tracing.{Known, known_of, mark_of}
+use Rattle.net_builder.proofs.Common.{◌≡◌, inl, inr, sym, ◌∙◌, Loops, Known, known_of, mark_of}
 use Rattle.net_builder.proofs.Marking.{way_ends, way_loops, way_found}
 use Rattle.net_builder.proofs.tracing.Trace.follow.Goals.{in-Ends, in-Open+in_ok-push-in-Open, in-Loops}
 use Rattle.net_builder.proofs.tracing.Trace.follow.Goals as goal

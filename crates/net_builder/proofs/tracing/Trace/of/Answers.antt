@@ -1,6 +1,4 @@
-use Rattle.std.proofs.Common.{◌≡◌, ℕ, length, replicate, refl, ◌∙◌, ap, arith}
-use Rattle.net_builder.specs.declared.tracing.Mark.TheVariants.{Unknown}
-use Rattle.net_builder.specs.Tracing.{Known}
+use Rattle.net_builder.proofs.Common.{◌≡◌, ℕ, length, replicate, refl, ◌∙◌, ap, arith, Unknown, Known}
 use Rattle.net_builder.proofs.Marking.{traced_none}
 use Rattle.net_builder.proofs.tracing.Trace.of.Goals as goal
 

@@ -1,6 +1,4 @@
-use Rattle.std.proofs.Common.{◌≡◌, ◌≢◌, ◌<◌, ℕ}
-use Rattle.net_builder.specs.declared.tracing.Mark.TheVariants.{Unknown}
-use Rattle.net_builder.specs.Tracing.{known_of, mark_of, IsDone}
+use Rattle.net_builder.proofs.Common.{◌≡◌, ◌≢◌, ◌<◌, ℕ, Unknown, known_of, mark_of, IsDone}
 use Rattle.net_builder.proofs.tracing.Trace.of.Given as goal
 
 abbrev pub invariant-loop-net : goal.invariant-loop-net

@@ -1,8 +1,4 @@
-use Rattle.std.proofs.Common.{ℕ, List, [], ◌∷◌, ◌++◌, sym, ◌∙◌, subst, refl}
-use Rattle.netlist_core.specs.declared.bit.Bit.TheVariants.{Fixed, Net}
-use Rattle.net_builder.specs.declared.tracing.Mark.TheVariants.{Open}
-use Rattle.net_builder.specs.Finished.{stays, fixed}
-use Rattle.net_builder.specs.Tracing.{Known, known_of, IsTraced, Comes}
+use Rattle.net_builder.proofs.Common.{ℕ, List, [], ◌∷◌, ◌++◌, sym, ◌∙◌, subst, refl, Fixed, Net, Open, stays, fixed, Known, known_of, IsTraced, Comes}
 use Rattle.net_builder.proofs.Marking.{marked, traced_end, traced_on, set_unknowns, unknown_inside}
 use Rattle.net_builder.proofs.tracing.Trace.open.Goals as goal
 

@@ -1,5 +1,4 @@
-use Rattle.std.proofs.Common.{◌<◌, length, arith}
-use Rattle.net_builder.specs.Tracing.{Known, known_of, Fits}
+use Rattle.net_builder.proofs.Common.{◌<◌, length, arith, Known, known_of, Fits}
 use Rattle.net_builder.proofs.Marking.{marked, keeps_same, keeps_both, keeps_marked, fits_known, popped_here, popped_way, traced_pop}
 use Rattle.net_builder.proofs.tracing.Trace.settle.Goals as goal
 

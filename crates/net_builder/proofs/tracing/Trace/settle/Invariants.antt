@@ -1,4 +1,4 @@
-use Rattle.net_builder.specs.Tracing.{known_of, Keeps, IsTraced, Fits}
+use Rattle.net_builder.proofs.Common.{known_of, Keeps, IsTraced, Fits}
 use Rattle.net_builder.proofs.tracing.Trace.settle.Given as goal
 
 abbrev pub invariant-loop-net : goal.invariant-loop-net

@@ -1,6 +1,4 @@
-use Rattle.std.proofs.Common.{◌≡◌, ◌≢◌, ◌⊎◌}
-use Rattle.net_builder.specs.declared.tracing.Mark.TheVariants.{Unknown}
-use Rattle.net_builder.specs.Tracing.{known_of, mark_of, unknowns, Keeps, IsTraced, Comes}
+use Rattle.net_builder.proofs.Common.{◌≡◌, ◌≢◌, ◌⊎◌, Unknown, known_of, mark_of, unknowns, Keeps, IsTraced, Comes}
 use Rattle.net_builder.proofs.tracing.Trace.walk.Given as goal
 
 abbrev pub invariant-loop-next : goal.invariant-loop-next

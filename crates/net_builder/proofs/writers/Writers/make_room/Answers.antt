@@ -1,6 +1,4 @@
-use Rattle.std.proofs.Common.{◌≡◌, ◌+◌, ◌∙◌, ap, length, arith}
-use Rattle.std.proofs.lemmas.List.{length-append}
-use Rattle.net_builder.specs.Written.{writer_in}
+use Rattle.net_builder.proofs.Common.{◌≡◌, ◌+◌, ◌∙◌, ap, length, arith, length-append, writer_in}
 use Rattle.net_builder.proofs.Writing.{push_is}
 use Rattle.net_builder.proofs.writers.Writers.make_room.Goals as goal
 

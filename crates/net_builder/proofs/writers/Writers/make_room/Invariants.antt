@@ -1,5 +1,4 @@
-use Rattle.std.proofs.Common.{◌≡◌, ◌≤◌, length, ◌+◌, ◌-◌, vec_len}
-use Rattle.net_builder.specs.Written.{writers_of}
+use Rattle.net_builder.proofs.Common.{◌≡◌, ◌≤◌, length, ◌+◌, ◌-◌, vec_len, writers_of}
 use Rattle.net_builder.proofs.writers.Writers.make_room.Given as goal
 
 abbrev pub invariant-loop-self : goal.invariant-loop-self

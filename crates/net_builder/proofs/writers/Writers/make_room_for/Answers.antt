@@ -1,8 +1,5 @@
-use Rattle.std.proofs.Common.{◌≡◌, ◌≤◌, ◌+◌, ◌<◌, ℕ, suc, length, drop, ◌∙◌, ap, subst, arith}
-use Rattle.netlist_core.specs.declared.bit.Bit.TheVariants.{Fixed, Net}
+use Rattle.net_builder.proofs.Common.{◌≡◌, ◌≤◌, ◌+◌, ◌<◌, ℕ, suc, length, drop, ◌∙◌, ap, subst, arith, Fixed, Net, AllBelow, writers_of}
 use Rattle.net_builder.specs.declared.writers.Writers.{Writers}
-use Rattle.net_builder.specs.Building.{AllBelow}
-use Rattle.net_builder.specs.Written.{writers_of}
 use Rattle.net_builder.proofs.Writing.{below_step}
 use Rattle.net_builder.proofs.writers.Writers.make_room_for.Goals.{in-Net+in_ok-make_room, in_default}
 use Rattle.net_builder.proofs.writers.Writers.make_room_for.Goals as goal

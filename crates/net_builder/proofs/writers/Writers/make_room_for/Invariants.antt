@@ -1,6 +1,4 @@
-use Rattle.std.proofs.Common.{◌≡◌, ◌≤◌, ℕ, length, drop}
-use Rattle.net_builder.specs.Building.{AllBelow}
-use Rattle.net_builder.specs.Written.{writers_of}
+use Rattle.net_builder.proofs.Common.{◌≡◌, ◌≤◌, ℕ, length, drop, AllBelow, writers_of}
 use Rattle.net_builder.proofs.writers.Writers.make_room_for.Given as goal
 
 abbrev pub invariant-loop-bit : goal.invariant-loop-bit

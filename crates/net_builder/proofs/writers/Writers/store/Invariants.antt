@@ -1,6 +1,4 @@
-use Rattle.std.proofs.Common.{◌≡◌, length, drop}
-use Rattle.net_builder.specs.Building.{AllBelow}
-use Rattle.net_builder.specs.Written.{writers_of, after_stores}
+use Rattle.net_builder.proofs.Common.{◌≡◌, length, drop, AllBelow, writers_of, after_stores}
 use Rattle.net_builder.proofs.writers.Writers.store.Given as goal
 
 abbrev pub invariant-loop-bit : goal.invariant-loop-bit

@@ -1,8 +1,4 @@
-use Rattle.std.proofs.Common.{◌<◌, ℕ, true, List, map, length, set, sym, ap, ◌∙◌, subst, arith}
-use Rattle.std.specs.List.{All, Contains}
-use Rattle.std.proofs.lemmas.List.{length-map, length-set}
-use Rattle.net_order.specs.Orders.{row_of}
-use Rattle.net_order.specs.Listing.{Stage, stage_of, IsSized, IsStage, CanBePlaced}
+use Rattle.net_order.proofs.Common.{◌<◌, ℕ, true, List, map, length, set, sym, ap, ◌∙◌, subst, arith, All, Contains, length-map, length-set, row_of, Stage, stage_of, IsSized, IsStage, CanBePlaced}
 use Rattle.net_order.proofs.Stages.{at_place, stage-marked}
 use Rattle.net_order.proofs.Staged.{marked-sized}
 use Rattle.net_order.proofs.listing.Listing.list.Goals as goal

@@ -1,8 +1,4 @@
-use Rattle.std.proofs.Common.{◌<◌, ℕ, Bool, List, length, get_or, ap, subst, arith}
-use Rattle.std.specs.List.{Contains}
-use Rattle.std.proofs.lemmas.List.{length-map}
-use Rattle.std.proofs.lemmas.List.Elements.{Contains-get_or}
-use Rattle.net_order.specs.Listing.{IsNext}
+use Rattle.net_order.proofs.Common.{◌<◌, ℕ, Bool, List, length, get_or, ap, subst, arith, Contains, length-map, Contains-get_or, IsNext}
 use Rattle.net_order.proofs.Stages.{at_place, stage-ready, stage-waits}
 use Rattle.net_order.proofs.listing.Listing.place.Goals as goal
 

@@ -1,5 +1,4 @@
-use Rattle.std.proofs.Common.{◌<◌, length, arith}
-use Rattle.net_order.specs.Listing.{Stage, stage_of}
+use Rattle.net_order.proofs.Common.{◌<◌, length, arith, Stage, stage_of}
 use Rattle.net_order.proofs.Staged.{stage-step, step-sized, stage-none}
 use Rattle.net_order.proofs.listing.Listing.place_all.Goals as goal
 

@@ -1,6 +1,4 @@
-use Rattle.std.proofs.Common.{◌≡◌, ℕ, List, drop}
-use Rattle.std.specs.List.{Contains}
-use Rattle.net_order.specs.Listing.{stage_of, IsSized, IsStage, CanBePlaced}
+use Rattle.net_order.proofs.Common.{◌≡◌, ℕ, List, drop, Contains, stage_of, IsSized, IsStage, CanBePlaced}
 use Rattle.net_order.proofs.listing.Listing.place_all.Given as goal
 
 abbrev pub invariant-loop-c : goal.invariant-loop-c

@@ -1,5 +1,4 @@
-use Rattle.std.proofs.Common.{◌≡◌, drop, length}
-use Rattle.net_order.specs.Reaching.{trail_of, after_nodes}
+use Rattle.net_order.proofs.Common.{◌≡◌, drop, length, trail_of, after_nodes}
 use Rattle.net_order.proofs.loops.Search.look.Given as goal
 
 abbrev pub invariant-loop-node : goal.invariant-loop-node

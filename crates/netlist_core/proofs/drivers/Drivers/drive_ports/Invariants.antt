@@ -1,5 +1,4 @@
-use Rattle.std.proofs.Common.{◌≡◌, drop}
-use Rattle.netlist_core.specs.Marking.{known_of, after_ports}
+use Rattle.netlist_core.proofs.Common.{◌≡◌, drop, known_of, after_ports}
 use Rattle.netlist_core.proofs.drivers.Drivers.drive_ports.Given as goal
 
 abbrev pub invariant-loop-port : goal.invariant-loop-port

@@ -1,9 +1,7 @@
-use Rattle.std.proofs.Common.{◌≡◌, length, ap, ◌∙◌}
-use Rattle.netlist_core.specs.Marking.{Known, driver_at, all_known}
+use Rattle.netlist_core.proofs.Common.{◌≡◌, length, ap, ◌∙◌, Known, driver_at, all_known, plain}
 use Rattle.netlist_core.proofs.Checks.{driven-below, driven-last}
 use Rattle.netlist_core.proofs.Settles.{plain-causal}
 use Rattle.netlist_core.proofs.Solved.{has-one-run}
-use Rattle.netlist_core.specs.Runs.{plain}
 use Rattle.netlist_core.proofs.netlist.Netlist.check.Goals as goal
 
 pub invariant_of-result : goal.invariant_of-result

@@ -1,6 +1,4 @@
-use Rattle.std.proofs.Common.{◌≡◌, ◌∙◌, sym, refl, true, false}
-use Rattle.proc_muxes.specs.declared.change.Change.{Change}
-use Rattle.proc_muxes.specs.Working.{is_changed}
+use Rattle.proc_muxes.proofs.Common.{◌≡◌, ◌∙◌, sym, refl, true, false, Change, is_changed}
 use Rattle.proc_muxes.proofs.Changing.{joined-push}
 use Rattle.proc_muxes.proofs.change.Changes.join.Goals as goal
 

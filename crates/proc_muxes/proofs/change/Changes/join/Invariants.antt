@@ -1,5 +1,4 @@
-use Rattle.std.proofs.Common.{◌≡◌}
-use Rattle.proc_muxes.specs.Working.{joined}
+use Rattle.proc_muxes.proofs.Common.{◌≡◌, joined}
 use Rattle.proc_muxes.proofs.change.Changes.join.Given as goal
 
 abbrev pub invariant-loop-change : goal.invariant-loop-change

@@ -1,9 +1,4 @@
-use Rattle.std.proofs.Common.{◌∙◌, sym}
-use Rattle.std.proofs.lemmas.Result.{on_ok_weaker}
-use Rattle.vlog_meaning.specs.Scopes.{names_of}
-use Rattle.vlog_meaning.proofs.Blanks.{left_nil}
-use Rattle.vlog_meaning.proofs.Firsts.{least_none}
-use Rattle.elab_proc.specs.Refusals.{wrong}
+use Rattle.process_latches.proofs.Common.{◌∙◌, sym, on_ok_weaker, names_of, left_nil, least_none, wrong}
 use Rattle.process_latches.proofs.marks.Marks.read.Goals as goal
 
 pub read_by-requires : goal.read_by-requires

@@ -1,5 +1,4 @@
-use Rattle.std.proofs.Common.{add-one, arith}
-use Rattle.vlog_meaning.specs.Scopes.{names_of}
+use Rattle.process_latches.proofs.Common.{add-one, arith, names_of}
 use Rattle.process_latches.proofs.Reading.{more_reads}
 use Rattle.process_latches.proofs.marks.Marks.read_all.Goals as goal
 

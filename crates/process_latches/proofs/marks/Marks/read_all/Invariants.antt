@@ -1,7 +1,4 @@
-use Rattle.std.proofs.Common.{false, [], take}
-use Rattle.vlog_meaning.specs.Scopes.{names_of}
-use Rattle.vlog_meaning.specs.Senses.{no_bits}
-use Rattle.process_latches.specs.Marking.{Added, all_sound_reads}
+use Rattle.process_latches.proofs.Common.{false, [], take, names_of, no_bits, Added, all_sound_reads}
 use Rattle.process_latches.proofs.marks.Marks.read_all.Given as goal
 
 abbrev pub invariant-loop-expr : goal.invariant-loop-expr

@@ -1,7 +1,4 @@
-use Rattle.std.proofs.Common.{◌∙◌, sym}
-use Rattle.std.proofs.lemmas.Result.{on_ok_weaker}
-use Rattle.vlog_meaning.specs.Scopes.{names_of}
-use Rattle.vlog_meaning.proofs.Firsts.{least_none}
+use Rattle.process_latches.proofs.Common.{◌∙◌, sym, on_ok_weaker, names_of, least_none}
 use Rattle.process_latches.proofs.Reading.{whole_reads, no_reads}
 use Rattle.process_latches.proofs.marks.Marks.read_by.Goals as goal
 

@@ -1,4 +1,4 @@
-use Rattle.std.proofs.Common.{◌≡◌, take}
+use Rattle.project_file.proofs.Common.{◌≡◌, take}
 use Rattle.project_file.proofs.project.Requirement.copy.Given as goal
 
 abbrev pub invariant-loop-tag : goal.invariant-loop-tag

@@ -1,4 +1,4 @@
-use Rattle.std.proofs.Common.{ap, sym, ◌∙◌, option_map}
+use Rattle.project_lines.proofs.Common.{ap, sym, ◌∙◌, option_map}
 use Rattle.project_lines.proofs.Finding.{paths_read}
 use Rattle.project_lines.proofs.paths.Paths.find.Goals as goal
 

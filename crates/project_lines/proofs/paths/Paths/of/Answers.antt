@@ -1,4 +1,4 @@
-use Rattle.std.proofs.Common.{◌∙◌}
+use Rattle.project_lines.proofs.Common.{◌∙◌}
 use Rattle.project_lines.proofs.Finding.{no_lines}
 use Rattle.project_lines.proofs.Reading.{paths_step}
 use Rattle.project_lines.proofs.paths.Paths.of.Goals as goal

@@ -1,5 +1,4 @@
-use Rattle.std.proofs.Common.{◌≡◌, map, take}
-use Rattle.project_lines.specs.Paths.{find_path, paths_in}
+use Rattle.project_lines.proofs.Common.{◌≡◌, map, take, find_path, paths_in}
 use Rattle.project_lines.proofs.paths.Paths.of.Given as goal
 
 abbrev pub invariant-loop-line : goal.invariant-loop-line

@@ -1,5 +1,4 @@
-use Rattle.std.proofs.Common.{◌≡◌, map, take}
-use Rattle.project_lines.specs.Paths.{path_of, paths_in}
+use Rattle.project_lines.proofs.Common.{◌≡◌, map, take, path_of, paths_in}
 use Rattle.project_lines.proofs.paths.Paths.paths_of.Given as goal
 
 abbrev pub invariant-loop-name : goal.invariant-loop-name

@@ -1,6 +1,4 @@
-use Rattle.std.proofs.Common.{◌≡◌, ◌<◌, ◌≤◌, ◌+◌, true, Bor, List, ℕ, arith, sym, ap, ◌∙◌, subst, length, map, drop, get_or}
-use Rattle.std.proofs.lemmas.List.{length-map}
-use Rattle.project_lines.specs.Paths.{are_too_many, with_name, with_names}
+use Rattle.project_lines.proofs.Common.{◌≡◌, ◌<◌, ◌≤◌, ◌+◌, true, Bor, List, ℕ, arith, sym, ap, ◌∙◌, subst, length, map, drop, get_or, length-map, are_too_many, with_name, with_names}
 use Rattle.project_lines.proofs.Faults.{mapped_drop, mapped_end}
 use Rattle.project_lines.proofs.Reading.{count_few, count_many, names_cons, names_none, names_stay}
 use Rattle.project_lines.proofs.paths.ReadFiles.add_all.Goals as goal

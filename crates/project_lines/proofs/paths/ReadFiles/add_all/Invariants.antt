@@ -1,5 +1,4 @@
-use Rattle.std.proofs.Common.{◌≡◌, ◌<◌, ◌≤◌, drop, length, map}
-use Rattle.project_lines.specs.Paths.{with_names}
+use Rattle.project_lines.proofs.Common.{◌≡◌, ◌<◌, ◌≤◌, drop, length, map, with_names}
 use Rattle.project_lines.proofs.paths.ReadFiles.add_all.Given as goal
 
 abbrev pub invariant-loop-name : goal.invariant-loop-name

@@ -1,5 +1,4 @@
-use Rattle.std.proofs.Common.{sym, subst}
-use Rattle.project_tester.specs.ProjectJobs.{asked_in, word_in, TellsAttempt}
+use Rattle.project_tester.proofs.Common.{sym, subst, asked_in, word_in, TellsAttempt}
 use Rattle.project_tester.proofs.Ending.{attempt_told}
 use Rattle.project_tester.proofs.job.ProjectJob.attempt.Goals as goal
 

@@ -1,8 +1,5 @@
-use Rattle.std.proofs.Common.{length, sym, subst}
+use Rattle.project_tester.proofs.Common.{length, sym, subst, Prepared, IsAskable, asked_of, HasBegun}
 use Rattle.std.specs.Prelude.{IfOk}
-use Rattle.campaign_plan.specs.declared.prepared.Prepared.{Prepared}
-use Rattle.campaign_core.specs.Testers.{IsAskable}
-use Rattle.project_tester.specs.ProjectJobs.{asked_of, HasBegun}
 use Rattle.project_tester.proofs.tester.ProjectTester.begin.Goals as goal
 
 pub begin-requires-clause-askable : goal.begin-requires-clause-askable

@@ -1,6 +1,4 @@
-use Rattle.std.proofs.Common.{sym, ap, ℕ, Some}
-use Rattle.std.proofs.lemmas.Result.{err_from_is_err_and}
-use Rattle.project_tester.specs.ProjectJobs.{asked_in}
+use Rattle.project_tester.proofs.Common.{sym, ap, ℕ, Some, err_from_is_err_and, asked_in}
 use Rattle.project_tester.proofs.Ending.{word_given}
 use Rattle.project_tester.proofs.Works.{can_go_on}
 use Rattle.project_tester.proofs.tester.ProjectTesterTester.turn.Goals as goal

@@ -1,7 +1,4 @@
-use Rattle.std.proofs.Common.{List, Option, ℕ, ap, ◌∙◌, arith}
-use Rattle.std.specs.Prelude.{slice_index}
-use Rattle.tag_script.specs.Outcomes.{word_at}
-use Rattle.result_book.specs.Wants.{without_one}
+use Rattle.result_book.proofs.Common.{List, Option, ℕ, ap, ◌∙◌, arith, slice_index, word_at, without_one}
 use Rattle.result_book.proofs.Keeping.{first_all, first_more}
 use Rattle.result_book.proofs.bounds.Bounds.without_given_up.Goals as goal
 

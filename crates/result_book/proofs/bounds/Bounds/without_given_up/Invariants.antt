@@ -1,4 +1,4 @@
-use Rattle.std.proofs.Common.{◌≡◌}
+use Rattle.result_book.proofs.Common.{◌≡◌}
 use Rattle.result_book.proofs.Keeping.{kept_first}
 use Rattle.result_book.proofs.bounds.Bounds.without_given_up.Given as goal
 

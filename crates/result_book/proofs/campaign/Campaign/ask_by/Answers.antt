@@ -1,6 +1,4 @@
-use Rattle.std.proofs.Common.{ap, ◌∙◌, ℕ, List}
-use Rattle.tag_script.specs.Outcomes.{script_outcome, told}
-use Rattle.result_book.specs.Scripts.{ask_by, filled}
+use Rattle.result_book.proofs.Common.{ap, ◌∙◌, ℕ, List, script_outcome, told, ask_by, filled}
 use Rattle.result_book.proofs.Asking.{among_filled}
 use Rattle.result_book.proofs.campaign.Campaign.ask_by.Goals as goal
 

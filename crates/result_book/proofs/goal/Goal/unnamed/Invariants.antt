@@ -1,5 +1,4 @@
-use Rattle.std.proofs.Common.{◌≡◌, drop}
-use Rattle.result_book.specs.Goals.{first_unnamed}
+use Rattle.result_book.proofs.Common.{◌≡◌, drop, first_unnamed}
 use Rattle.result_book.proofs.goal.Goal.unnamed.Given as goal
 
 abbrev pub invariant-loop-number : goal.invariant-loop-number

@@ -1,9 +1,6 @@
-use Rattle.std.proofs.Common.{◌≡◌, ◌<◌, ◌++◌, ◌∷◌, [], List, Option, Some, ℕ, length, set, slice_get, if◌then◌else◌, sym, ◌∙◌, ap, arith, Bool}
+use Rattle.result_book.proofs.Common.{◌≡◌, ◌<◌, ◌++◌, ◌∷◌, [], List, Option, Some, ℕ, length, set, slice_get, if◌then◌else◌, sym, ◌∙◌, ap, arith, Bool, same_Some, slice_get_read, answers_of}
+use Rattle.result_book.proofs.Common.{bounds_on, ask_by, words_of, Progress}
 use Rattle.std.specs.Vec.{vec_len}
-use Rattle.std.proofs.lemmas.Option.{same_Some, slice_get_read}
-use Rattle.result_book.specs.Rows.{answers_of, bounds_on}
-use Rattle.result_book.specs.Scripts.{ask_by, words_of}
-use Rattle.result_book.specs.States.{Progress}
 use Rattle.result_book.proofs.Following.{word_inside}
 use Rattle.result_book.proofs.StateLemmas.{bounds-at, length-asks, length-bounds, length-results, length-rows, results-at, state_more, words_next}
 use Rattle.result_book.proofs.state.State.add.Goals as goal

@@ -1,7 +1,4 @@
-use Rattle.std.proofs.Common.{◌≡◌, List, Option, None, ℕ, set, sym, ◌∙◌, ap, arith}
-use Rattle.std.proofs.lemmas.Option.{same_Some}
-use Rattle.result_book.specs.Rows.{answers_of}
-use Rattle.result_book.specs.Scripts.{ask_by, words_of}
+use Rattle.result_book.proofs.Common.{◌≡◌, List, Option, None, ℕ, set, sym, ◌∙◌, ap, arith, same_Some, answers_of, ask_by, words_of}
 use Rattle.result_book.proofs.Reading.{asked_without}
 use Rattle.result_book.proofs.StateLemmas.{length-results, results-at}
 use Rattle.result_book.proofs.state.State.asks_for.Goals as goal

@@ -1,7 +1,4 @@
-use Rattle.std.proofs.Common.{◌≡◌, ◌++◌, ◌∷◌, [], ◌∙◌, ap, arith}
-use Rattle.mcy_keeper.specs.declared.book.Entry.{Entry}
-use Rattle.result_book.specs.Scripts.{mark_of, tags_of}
-use Rattle.result_book.specs.Rows.{ask_on}
+use Rattle.result_book.proofs.Common.{◌≡◌, ◌++◌, ◌∷◌, [], ◌∙◌, ap, arith, Entry, mark_of, tags_of, ask_on}
 use Rattle.result_book.proofs.FaultLemmas.{ask_after}
 use Rattle.result_book.proofs.Following.{word_inside}
 use Rattle.result_book.proofs.StateLemmas.{next_row}

@@ -1,6 +1,4 @@
-use Rattle.std.proofs.Common.{◌≡◌, [], length, sym, ◌∙◌, ap}
-use Rattle.result_book.specs.Rows.{bounds_on}
-use Rattle.result_book.specs.Scripts.{ask_by, words_of}
+use Rattle.result_book.proofs.Common.{◌≡◌, [], length, sym, ◌∙◌, ap, bounds_on, ask_by, words_of}
 use Rattle.result_book.proofs.Grouping.{bounds_on-none}
 use Rattle.result_book.proofs.Words.{words_of-none}
 use Rattle.result_book.proofs.StateLemmas.{state_begun}

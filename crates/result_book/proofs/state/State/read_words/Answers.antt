@@ -1,7 +1,4 @@
-use Rattle.std.proofs.Common.{◌≡◌, ◌++◌, ◌∷◌, [], Some, None, sym, ◌∙◌, ap, arith}
-use Rattle.result_book.specs.Reads.{next_read}
-use Rattle.result_book.specs.Rows.{answers_of}
-use Rattle.result_book.specs.Scripts.{read_answers, words_of}
+use Rattle.result_book.proofs.Common.{◌≡◌, ◌++◌, ◌∷◌, [], Some, None, sym, ◌∙◌, ap, arith, next_read, answers_of, read_answers, words_of}
 use Rattle.result_book.proofs.Begun.{AreBegun, begun_all, begun_more, begun_none, next_fewer, next_inside, next_known, next_word, next_words}
 use Rattle.result_book.proofs.StateLemmas.{length-results}
 use Rattle.result_book.proofs.Words.{words_of-none}

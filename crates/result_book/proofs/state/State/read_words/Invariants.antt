@@ -1,7 +1,4 @@
-use Rattle.std.proofs.Common.{◌≡◌, List, count_by}
-use Rattle.std.specs.Prelude.{is_none}
-use Rattle.result_book.specs.Rows.{answers_of}
-use Rattle.result_book.specs.Scripts.{Answer, words_of}
+use Rattle.result_book.proofs.Common.{◌≡◌, List, count_by, is_none, answers_of, Answer, words_of}
 use Rattle.result_book.proofs.Begun.{AreBegun}
 use Rattle.result_book.proofs.state.State.read_words.Given as goal
 

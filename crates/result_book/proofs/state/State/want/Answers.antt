@@ -1,11 +1,4 @@
-use Rattle.std.proofs.Common.{◌≡◌, inl, inr, true, List, Option, ℕ, sym, ◌∙◌, ap, arith}
-use Rattle.std.proofs.lemmas.Option.{same_Some}
-use Rattle.tag_script.specs.declared.answer.Ask.{Ask}
-use Rattle.tag_script.specs.Outcomes.{word_at}
-use Rattle.result_book.specs.Goals.{next_bound}
-use Rattle.result_book.specs.Rows.{answers_of, bounds_on}
-use Rattle.result_book.specs.Scripts.{ask_by, is_ended, words_of}
-use Rattle.result_book.specs.Wants.{kept_words}
+use Rattle.result_book.proofs.Common.{◌≡◌, inl, inr, true, List, Option, ℕ, sym, ◌∙◌, ap, arith, same_Some, Ask, word_at, next_bound, answers_of, bounds_on, ask_by, is_ended, words_of, kept_words}
 use Rattle.result_book.proofs.StateLemmas.{bounds-at, length-bounds, length-results, results-at}
 use Rattle.result_book.proofs.Wanting.{wanted_none, wanted_some}
 use Rattle.result_book.proofs.state.State.want.Goals as goal

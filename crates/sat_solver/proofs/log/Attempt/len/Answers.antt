@@ -1,5 +1,4 @@
-use Rattle.std.proofs.Common.{◌≡◌, ◌<◌, ◌^◌, length, ap, arith}
-use Rattle.lrat_checker.specs.LegalLogs.{Log}
+use Rattle.sat_solver.proofs.Common.{◌≡◌, ◌<◌, ◌^◌, length, ap, arith, Log}
 use Rattle.sat_solver.proofs.Bound.{short_log}
 use Rattle.sat_solver.proofs.log.Attempt.len.Goals as goal
 

@@ -1,11 +1,7 @@
-use Rattle.std.proofs.Common.{◌≡◌, ◌<◌, ◌+◌, ◌++◌, ◌∷◌, ◌∙◌, ℕ, ℤ, List, [], pos, length, take, map, get_or, set, sym, ap, subst, rules, arith}
-use Rattle.std.specs.Prelude.{FitsSigned}
-use Rattle.std.specs.Int.{w32}
+use Rattle.sat_solver.proofs.Common.{◌≡◌, ◌<◌, ◌+◌, ◌++◌, ◌∷◌, ◌∙◌, ℕ, ℤ, List, [], pos, length, take, map, get_or, set, sym, ap, subst, rules, arith, FitsSigned, w32, to_z-of_z, length-map, take_all}
+use Rattle.sat_solver.proofs.Common.{place_of, IsAdded, list-changed}
 use Rattle.std.proofs.Math.Seq.{map-set_same}
-use Rattle.std.proofs.lemmas.Int.{to_z-of_z}
-use Rattle.std.proofs.lemmas.List.{length-map, take_all}
-use Rattle.sat_solver.specs.Occurrences.{place_of, IsAdded}
-use Rattle.sat_solver.proofs.Listed.{list-changed, added-more, added-dropped}
+use Rattle.sat_solver.proofs.Listed.{added-more, added-dropped}
 use Rattle.sat_solver.proofs.occurrences.Occurrences.add.Goals as goal
 
 pub loop-place-preserved : goal.loop-place-preserved

@@ -1,5 +1,4 @@
-use Rattle.std.proofs.Common.{take, map}
-use Rattle.sat_solver.specs.Occurrences.{IsAdded}
+use Rattle.sat_solver.proofs.Common.{take, map, IsAdded}
 use Rattle.sat_solver.proofs.occurrences.Occurrences.add.Given as goal
 
 abbrev pub invariant-loop-place : goal.invariant-loop-place

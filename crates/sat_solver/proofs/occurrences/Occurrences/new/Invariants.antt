@@ -1,4 +1,4 @@
-use Rattle.std.proofs.Common.{◌≡◌, ◌≤◌, ◌-◌, [], length, map, replicate}
+use Rattle.sat_solver.proofs.Common.{◌≡◌, ◌≤◌, ◌-◌, [], length, map, replicate}
 use Rattle.sat_solver.proofs.occurrences.Occurrences.new.Given as goal
 
 abbrev pub invariant-loop-alloc : goal.invariant-loop-alloc

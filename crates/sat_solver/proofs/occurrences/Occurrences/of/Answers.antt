@@ -1,10 +1,4 @@
-use Rattle.std.proofs.Common.{◌≡◌, ◌<◌, List, ℕ, [], length, get_or, map, ap, ◌∙◌, rules, arith}
-use Rattle.std.specs.Prelude.{FitsSigned}
-use Rattle.std.specs.Int.{w32}
-use Rattle.std.proofs.lemmas.Int.{to_z-of_z}
-use Rattle.std.proofs.lemmas.List.{length-map}
-use Rattle.sat_solver.specs.Occurrences.{place_of}
-use Rattle.sat_solver.proofs.Listed.{list-at}
+use Rattle.sat_solver.proofs.Common.{◌≡◌, ◌<◌, List, ℕ, [], length, get_or, map, ap, ◌∙◌, rules, arith, FitsSigned, w32, to_z-of_z, length-map, place_of, list-at}
 use Rattle.sat_solver.proofs.occurrences.Occurrences.of.Goals as goal
 
 pub returns : goal.returns

@@ -1,10 +1,5 @@
-use Rattle.std.proofs.Common.{◌≡◌, ◌<◌, ◌-◌, ◌∙◌, ℕ, List, [], length, take, map, get_or, set, sym, ap, rules, arith}
-use Rattle.std.specs.Prelude.{FitsSigned, swap_remove}
-use Rattle.std.specs.Int.{w32}
-use Rattle.std.proofs.lemmas.Int.{to_z-of_z}
-use Rattle.std.proofs.lemmas.List.{length-map, get_or_default, get_or-set_same, get_or-set_other}
-use Rattle.sat_solver.specs.Occurrences.{place_of, list_of}
-use Rattle.sat_solver.proofs.Listed.{list-at, list-changed}
+use Rattle.sat_solver.proofs.Common.{◌≡◌, ◌<◌, ◌-◌, ◌∙◌, ℕ, List, [], length, take, map, get_or, set, ap, rules, arith, FitsSigned, swap_remove, w32, to_z-of_z, length-map, get_or_default}
+use Rattle.sat_solver.proofs.Common.{get_or-set_same, get_or-set_other, place_of, list_of, list-at, list-changed}
 use Rattle.sat_solver.proofs.occurrences.Occurrences.remove.Goals as goal
 
 pub swap_remove-requires : goal.swap_remove-requires

@@ -1,4 +1,4 @@
-use Rattle.std.proofs.Common.{◌≡◌, ◌+◌, ◌-◌, ◌++◌, ◌∷◌, [], ℕ, ℤ, List, false, length, get_or, refl, ap, sym, ◌∙◌, arith}
+use Rattle.sat_solver.proofs.Common.{◌≡◌, ◌+◌, ◌-◌, ◌++◌, ◌∷◌, [], ℕ, ℤ, List, false, length, get_or, refl, ap, sym, ◌∙◌, arith}
 use Rattle.sat_solver.proofs.Kept.{clause-is}
 use Rattle.sat_solver.proofs.Picking.{part-room, part-taken, part-skipped}
 use Rattle.sat_solver.proofs.part.Part.see.Goals as goal

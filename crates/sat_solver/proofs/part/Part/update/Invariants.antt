@@ -1,5 +1,4 @@
-use Rattle.std.proofs.Common.{◌-◌, length}
-use Rattle.sat_solver.specs.Parts.{IsPart}
+use Rattle.sat_solver.proofs.Common.{◌-◌, length, IsPart}
 use Rattle.sat_solver.proofs.part.Part.update.Given as goal
 
 abbrev pub invariant-loop-self : goal.invariant-loop-self

@@ -1,6 +1,4 @@
-use Rattle.std.proofs.Common.{◌≡◌, ℕ, true, length, ap, ◌∙◌, subst}
-use Rattle.sat_solver.specs.Trails.{IsDecided}
-use Rattle.sat_solver.specs.Parts.{IsFocus, in_use}
+use Rattle.sat_solver.proofs.Common.{◌≡◌, ℕ, true, length, ap, ◌∙◌, subst, IsDecided, IsFocus, in_use}
 use Rattle.sat_solver.proofs.Probing.{done-whole, done-end}
 use Rattle.sat_solver.proofs.probe.Probe.conflict.Goals as goal
 

@@ -1,8 +1,4 @@
-use Rattle.std.proofs.Common.{◌≡◌, ◌++◌, ℕ, ℤ, List, length, subst}
-use Rattle.std.specs.Prelude.{IfOk, MatchOption}
-use Rattle.lrat_checker.specs.Tables.{known_of}
-use Rattle.sat_solver.specs.Trails.{IsDecided, IsConflict}
-use Rattle.sat_solver.specs.Parts.{IsPart, in_use}
+use Rattle.sat_solver.proofs.Common.{◌≡◌, ◌++◌, ℕ, ℤ, List, length, subst, IfOk, MatchOption, known_of, IsDecided, IsConflict, IsPart, in_use}
 use Rattle.sat_solver.proofs.Probing.{part-whole, probing-searched, on-ok}
 use Rattle.sat_solver.proofs.probe.Probe.conflict_in_focus.Goals as goal
 

@@ -1,4 +1,4 @@
-use Rattle.std.proofs.Common.{◌+◌}
+use Rattle.sat_solver.proofs.Common.{◌+◌}
 use Rattle.sat_solver.proofs.Probing.{probing-new}
 use Rattle.sat_solver.proofs.probe.Probe.new.Goals as goal
 

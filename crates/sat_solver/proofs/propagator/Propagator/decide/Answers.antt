@@ -1,10 +1,4 @@
-use Rattle.std.proofs.Common.{◌≡◌, ◌++◌, ◌∷◌, [], Some, ap, ◌∙◌, set, rules}
-use Rattle.std.specs.Prelude.{FitsSigned}
-use Rattle.std.specs.Int.{w32}
-use Rattle.std.proofs.lemmas.Int.{to_z-of_z}
-use Rattle.clause_store.specs.Clauses.{variable}
-use Rattle.clause_store.specs.Propagation.{is_positive}
-use Rattle.sat_solver.specs.Propagators.{AreRaised}
+use Rattle.sat_solver.proofs.Common.{◌≡◌, ◌++◌, ◌∷◌, [], Some, ap, ◌∙◌, set, rules, FitsSigned, w32, to_z-of_z, variable, is_positive, AreRaised}
 use Rattle.sat_solver.proofs.Kept.{kept-count, kept-decided}
 use Rattle.sat_solver.proofs.propagator.Propagator.decide.Goals as goal
 

@@ -1,12 +1,5 @@
-use Rattle.std.proofs.Common.{◌≡◌, ◌-◌, ◌<◌, ℤ, List, length, Some, ap, ◌∙◌, sym, subst, rules, arith}
-use Rattle.std.specs.Prelude.{All, FitsSigned}
-use Rattle.std.specs.Int.{w32}
-use Rattle.std.proofs.lemmas.Int.{to_z-of_z}
-use Rattle.clause_store.specs.Clauses.{variable}
-use Rattle.clause_store.specs.Propagation.{Known, with_true, is_positive, clause_at, IsUnit, IsQuiet}
-use Rattle.lrat_checker.specs.Tables.{known_of}
-use Rattle.lrat_checker.proofs.Following.{clause-within, clause_at-place, unit_variable}
-use Rattle.sat_solver.specs.Propagators.{IsAssigned}
+use Rattle.sat_solver.proofs.Common.{◌≡◌, ◌-◌, ◌<◌, ℤ, List, length, Some, ap, ◌∙◌, sym, subst, rules, arith, All, FitsSigned, w32, to_z-of_z, variable, Known, with_true, is_positive, clause_at}
+use Rattle.sat_solver.proofs.Common.{IsUnit, IsQuiet, known_of, clause-within, clause_at-place, unit_variable, IsAssigned}
 use Rattle.sat_solver.proofs.Pushes.{table-with, variable-open}
 use Rattle.sat_solver.proofs.Grown.{grown-unit}
 use Rattle.sat_solver.proofs.Settled.{quiet-made}

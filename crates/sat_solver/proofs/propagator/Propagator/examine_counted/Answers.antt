@@ -1,6 +1,4 @@
-use Rattle.std.proofs.Common.{ℤ, List, subst}
-use Rattle.clause_store.specs.Propagation.{IsQuiet}
-use Rattle.lrat_checker.specs.Tables.{known_of}
+use Rattle.sat_solver.proofs.Common.{ℤ, List, subst, IsQuiet, known_of}
 use Rattle.sat_solver.proofs.Kept.{same-clause, numbered-is, kept-shown}
 use Rattle.sat_solver.proofs.propagator.Propagator.examine_counted.Goals as goal
 

@@ -1,18 +1,11 @@
-use Rattle.std.proofs.Common.{◌≡◌, ◌≢◌, ◌-◌, ◌∷◌, [], ℤ, List, true, false, Some, length, set, sym, refl, subst, rules, arith}
-use Rattle.std.specs.Prelude.{All, Contains, FitsSigned}
-use Rattle.std.specs.Int.{w32}
-use Rattle.std.proofs.lemmas.Int.{to_z-of_z}
-use Rattle.clause_store.specs.Propagation.{literal}
-use Rattle.lrat_checker.specs.Tables.{known_of}
-use Rattle.lrat_checker.proofs.Following.{clause-within}
-use Rattle.sat_solver.specs.declared.watches.Pair.{Pair}
-use Rattle.sat_solver.specs.Occurrences.{numbered, IsAdded}
-use Rattle.sat_solver.specs.Watches.{pair_of, IsOther}
+use Rattle.sat_solver.proofs.Common.{◌≡◌, ◌≢◌, ◌-◌, ◌∷◌, [], ℤ, List, true, false, Some, length, set, sym, refl, subst, rules, arith, All, Contains, FitsSigned, w32, to_z-of_z, literal, known_of}
+use Rattle.sat_solver.proofs.Common.{clause-within, Pair, numbered, IsAdded, pair_of, IsOther}
 use Rattle.sat_solver.proofs.Listed.{place-within}
 use Rattle.sat_solver.proofs.Watched.{more-added}
 use Rattle.sat_solver.proofs.Kept.{numbered-is, literal-over}
 use Rattle.sat_solver.proofs.Taken.{kept-roomy}
-use Rattle.sat_solver.proofs.Looking.{propagated-below, pair-clause, other-in, look-apart, look-true, look-last, moved-same, moved-steady, moved-listed, kept-changed, moved-changed, look-changed, examined-conflict}
+use Rattle.sat_solver.proofs.Looking.{propagated-below, pair-clause, other-in, look-apart, look-true, look-last, moved-same, moved-steady, moved-listed, kept-changed, moved-changed, look-changed}
+use Rattle.sat_solver.proofs.Looking.{examined-conflict}
 use Rattle.sat_solver.proofs.propagator.Propagator.look.Goals as goal
 
 pub returns-in_default-clause-kept : goal.returns-in_default-clause-kept

@@ -1,5 +1,5 @@
 use Rattle.sat_solver.proofs.Taken.{kept-new}
-use Rattle.std.proofs.Common.{refl}
+use Rattle.sat_solver.proofs.Common.{refl}
 use Rattle.sat_solver.proofs.propagator.Propagator.new.Goals as goal
 
 pub returns-clause-kept : goal.returns-clause-kept

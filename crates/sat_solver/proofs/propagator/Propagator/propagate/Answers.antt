@@ -1,4 +1,4 @@
-use Rattle.std.proofs.Common.{◌≡◌, ◌+◌, length, ◌∙◌, arith}
+use Rattle.sat_solver.proofs.Common.{◌≡◌, ◌+◌, length, ◌∙◌, arith}
 use Rattle.sat_solver.proofs.Grown.{grown-trans, count-le}
 use Rattle.sat_solver.proofs.Kept.{kept-quiet}
 use Rattle.sat_solver.proofs.propagator.Propagator.propagate.Goals as goal

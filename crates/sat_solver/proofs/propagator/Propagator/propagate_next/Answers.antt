@@ -1,11 +1,4 @@
-use Rattle.std.proofs.Common.{pos, take, sym, ◌∙◌, rules}
-use Rattle.std.specs.Prelude.{FitsSigned}
-use Rattle.std.specs.Int.{w32}
-use Rattle.std.proofs.lemmas.Int.{to_z-of_z}
-use Rattle.std.proofs.lemmas.List.{get_or_default}
-use Rattle.lrat_checker.specs.Tables.{known_of}
-use Rattle.sat_solver.specs.Watches.{AreSettled, AreGuards}
-use Rattle.sat_solver.specs.Looks.{propagated}
+use Rattle.sat_solver.proofs.Common.{pos, take, sym, ◌∙◌, rules, FitsSigned, w32, to_z-of_z, get_or_default, known_of, AreSettled, AreGuards, propagated}
 use Rattle.sat_solver.proofs.Grown.{grown-trans}
 use Rattle.sat_solver.proofs.Looking.{next-step}
 use Rattle.sat_solver.proofs.propagator.Propagator.propagate_next.Goals as goal

@@ -1,7 +1,4 @@
-use Rattle.std.proofs.Common.{◌≡◌, ◌-◌, ℤ, List, length, sym, subst, arith}
-use Rattle.lrat_checker.proofs.Following.{clause-within}
-use Rattle.sat_solver.specs.Occurrences.{numbered}
-use Rattle.sat_solver.specs.Watches.{IsPair}
+use Rattle.sat_solver.proofs.Common.{◌≡◌, ◌-◌, ℤ, List, length, sym, subst, arith, clause-within, numbered, IsPair}
 use Rattle.sat_solver.proofs.Kept.{numbered-is}
 use Rattle.sat_solver.proofs.propagator.Propagator.take.Goals as goal
 

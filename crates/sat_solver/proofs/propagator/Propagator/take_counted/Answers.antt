@@ -1,9 +1,5 @@
-use Rattle.std.proofs.Common.{◌≡◌, ◌+◌, ◌-◌, ◌++◌, ◌∷◌, [], ℕ, ℤ, List, Bool, true, false, Option, None, length, get_or, ap, sym, ◌∙◌, refl, subst, arith}
-use Rattle.clause_store.specs.Propagation.{IsQuiet}
-use Rattle.lrat_checker.specs.Tables.{known_of}
-use Rattle.lrat_checker.proofs.Following.{clause-within}
-use Rattle.sat_solver.specs.declared.watches.Pair.{Pair}
-use Rattle.sat_solver.specs.Occurrences.{IsAdded, valued}
+use Rattle.sat_solver.proofs.Common.{◌≡◌, ◌+◌, ◌-◌, ◌++◌, ◌∷◌, [], ℕ, ℤ, List, Bool, true, false, Option, None, length, get_or, ap, sym, ◌∙◌, refl, subst, arith, IsQuiet, known_of, clause-within}
+use Rattle.sat_solver.proofs.Common.{Pair, IsAdded, valued}
 use Rattle.sat_solver.proofs.Listed.{place-within}
 use Rattle.sat_solver.proofs.Kept.{clause-is, clause-short, clause-positive, numbered-is}
 use Rattle.sat_solver.proofs.Taken.{kept-taken, taken-counted, safe-none}

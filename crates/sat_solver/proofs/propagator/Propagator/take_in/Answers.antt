@@ -1,7 +1,4 @@
-use Rattle.std.proofs.Common.{◌+◌, subst, sym, arith}
-use Rattle.lrat_checker.specs.Tables.{known_of}
-use Rattle.sat_solver.specs.declared.trail.Trail.{Trail}
-use Rattle.sat_solver.specs.Trails.{IsGrown}
+use Rattle.sat_solver.proofs.Common.{◌+◌, subst, sym, arith, known_of, Trail, IsGrown}
 use Rattle.sat_solver.proofs.Grown.{grown-trans}
 use Rattle.sat_solver.proofs.Kept.{examined-quiet}
 use Rattle.sat_solver.proofs.propagator.Propagator.take_in.Goals as goal

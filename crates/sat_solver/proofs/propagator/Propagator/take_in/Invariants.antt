@@ -1,6 +1,4 @@
-use Rattle.std.proofs.Common.{◌-◌, length}
-use Rattle.sat_solver.specs.Trails.{IsGrown}
-use Rattle.sat_solver.specs.Propagators.{IsKept}
+use Rattle.sat_solver.proofs.Common.{◌-◌, length, IsGrown, IsKept}
 use Rattle.sat_solver.proofs.propagator.Propagator.take_in.Given as goal
 
 abbrev pub invariant-fresh : goal.invariant-fresh

@@ -1,10 +1,5 @@
-use Rattle.std.proofs.Common.{◌≡◌, ◌-◌, ◌<◌, ◌++◌, ◌∷◌, [], ℕ, List, Option, Some, length, to_z, of_z, ap, sym, ◌∙◌, refl, subst, rules, arith}
-use Rattle.std.specs.Prelude.{FitsSigned}
-use Rattle.std.specs.Int.{w32}
-use Rattle.std.proofs.lemmas.Int.{to_z-of_z}
-use Rattle.std.proofs.lemmas.List.{append-nil}
-use Rattle.sat_solver.specs.declared.watches.Pair.{Pair}
-use Rattle.sat_solver.specs.Occurrences.{place_of, numbered, list_of, IsAdded}
+use Rattle.sat_solver.proofs.Common.{◌≡◌, ◌-◌, ◌<◌, ◌++◌, ◌∷◌, [], ℕ, List, Option, Some, length, to_z, of_z, ap, sym, ◌∙◌, refl, subst, rules, arith, FitsSigned, w32, to_z-of_z, append-nil, Pair}
+use Rattle.sat_solver.proofs.Common.{place_of, numbered, list_of, IsAdded}
 use Rattle.sat_solver.proofs.Listed.{place-within}
 use Rattle.sat_solver.proofs.Watched.{IsTaken, more-added, two-places}
 use Rattle.sat_solver.proofs.Kept.{numbered-at, literal-over}

@@ -1,11 +1,5 @@
-use Rattle.std.proofs.Common.{◌≡◌, ◌+◌, ◌-◌, ◌<◌, ℕ, List, pos, length, take, get_or, nat_eq, to_z, of_z, ap, sym, ◌∙◌, subst, rules, arith}
-use Rattle.std.specs.Prelude.{FitsSigned, count_by}
-use Rattle.std.specs.Int.{w32}
-use Rattle.std.proofs.lemmas.Int.{to_z-of_z}
-use Rattle.std.proofs.lemmas.List.{get_or_default}
-use Rattle.sat_solver.specs.declared.counts.Counts.{Counts}
-use Rattle.sat_solver.specs.Trails.{assigned, literal_at}
-use Rattle.sat_solver.specs.Propagators.{IsIndexed, AreRaised}
+use Rattle.sat_solver.proofs.Common.{◌≡◌, ◌+◌, ◌-◌, ◌<◌, ℕ, List, pos, length, take, get_or, nat_eq, to_z, of_z, ap, sym, ◌∙◌, subst, rules, arith, FitsSigned, count_by, w32, to_z-of_z}
+use Rattle.sat_solver.proofs.Common.{get_or_default, Counts, assigned, literal_at, IsIndexed, AreRaised}
 use Rattle.sat_solver.proofs.Indexed.{can-lower, indexed-lowered}
 use Rattle.sat_solver.proofs.Undone.{kept-lower}
 use Rattle.sat_solver.proofs.propagator.Propagator.uncount.Goals as goal

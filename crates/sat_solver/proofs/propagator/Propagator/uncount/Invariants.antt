@@ -1,6 +1,4 @@
-use Rattle.std.proofs.Common.{◌≡◌, ◌≤◌, ℤ, List, length, take}
-use Rattle.sat_solver.specs.Trails.{assigned}
-use Rattle.sat_solver.specs.Propagators.{IsKept, IsIndexed, IsSteady}
+use Rattle.sat_solver.proofs.Common.{◌≡◌, ◌≤◌, ℤ, List, length, take, assigned, IsKept, IsIndexed, IsSteady}
 use Rattle.sat_solver.proofs.propagator.Propagator.uncount.Given as goal
 
 abbrev pub invariant-places : goal.invariant-places

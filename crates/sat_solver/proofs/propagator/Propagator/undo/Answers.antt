@@ -1,8 +1,4 @@
-use Rattle.std.proofs.Common.{◌≡◌, ℕ, length, take, get_or, ap, sym, ◌∙◌, refl, subst, arith}
-use Rattle.std.proofs.lemmas.List.{get_or_default}
-use Rattle.sat_solver.specs.declared.trail.Trail.{Trail}
-use Rattle.sat_solver.specs.Trails.{assigned, IsUnwound}
-use Rattle.sat_solver.specs.Propagators.{IsIndexed}
+use Rattle.sat_solver.proofs.Common.{◌≡◌, ℕ, length, take, get_or, ap, sym, ◌∙◌, refl, subst, arith, get_or_default, Trail, assigned, IsUnwound, IsIndexed}
 use Rattle.sat_solver.proofs.Undone.{kept-undone}
 use Rattle.sat_solver.proofs.propagator.Propagator.undo.Goals as goal
 

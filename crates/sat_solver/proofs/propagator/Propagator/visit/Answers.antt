@@ -1,15 +1,7 @@
-use Rattle.std.proofs.Common.{◌≡◌, ◌+◌, ◌<◌, ◌≤◌, ℕ, List, length, take, get_or, neg_ℤ, to_z, of_z, ap, sym, ◌∙◌, subst, rules, arith}
-use Rattle.std.specs.Prelude.{All, FitsSigned}
-use Rattle.std.specs.Int.{w32}
-use Rattle.std.proofs.lemmas.Int.{to_z-of_z}
-use Rattle.std.proofs.lemmas.List.{length-take-le, take_all}
-use Rattle.std.proofs.lemmas.List.Elements.{All-more}
-use Rattle.lrat_checker.specs.Tables.{known_of}
-use Rattle.sat_solver.specs.Trails.{assigned, IsGrown}
-use Rattle.sat_solver.specs.Occurrences.{list_of, numbered, IsSettled}
+use Rattle.sat_solver.proofs.Common.{◌≡◌, ◌+◌, ◌<◌, ◌≤◌, ℕ, List, length, take, get_or, neg_ℤ, to_z, of_z, ap, sym, ◌∙◌, subst, rules, arith, All, FitsSigned, w32, to_z-of_z, length-take-le, take_all}
+use Rattle.sat_solver.proofs.Common.{All-more, known_of, assigned, IsGrown, list_of, numbered, IsSettled, pair_of}
 use Rattle.sat_solver.proofs.Grown.{grown-trans}
 use Rattle.sat_solver.proofs.Settled.{settled-more}
-use Rattle.sat_solver.specs.Watches.{pair_of}
 use Rattle.sat_solver.proofs.Indexed.{held, held-times}
 use Rattle.sat_solver.proofs.Watched.{counted-none}
 use Rattle.sat_solver.proofs.Kept.{known-below, examined-quiet, examined-settled, settled-visited}

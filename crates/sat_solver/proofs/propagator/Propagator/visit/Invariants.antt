@@ -1,9 +1,4 @@
-use Rattle.std.proofs.Common.{◌+◌, take, neg_ℤ}
-use Rattle.std.specs.Prelude.{All}
-use Rattle.lrat_checker.specs.Tables.{known_of}
-use Rattle.sat_solver.specs.Trails.{assigned, IsGrown}
-use Rattle.sat_solver.specs.Occurrences.{list_of, numbered, IsSettled}
-use Rattle.sat_solver.specs.Propagators.{IsKept, IsSteady}
+use Rattle.sat_solver.proofs.Common.{◌+◌, take, neg_ℤ, All, known_of, assigned, IsGrown, list_of, numbered, IsSettled, IsKept, IsSteady}
 use Rattle.sat_solver.proofs.propagator.Propagator.visit.Given as goal
 
 abbrev pub invariant-loop-place : goal.invariant-loop-place

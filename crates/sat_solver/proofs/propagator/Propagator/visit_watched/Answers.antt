@@ -1,13 +1,5 @@
-use Rattle.std.proofs.Common.{◌≡◌, ◌≢◌, ◌+◌, ◌-◌, ◌<◌, ℕ, List, Some, length, get_or, to_z, of_z, ap, sym, ◌∙◌, refl, subst, rules, arith}
-use Rattle.std.specs.Prelude.{FitsSigned, swap_remove}
-use Rattle.std.specs.Int.{w32}
-use Rattle.std.proofs.lemmas.Int.{to_z-of_z}
-use Rattle.clause_store.specs.Propagation.{Known}
-use Rattle.lrat_checker.specs.Tables.{known_of}
-use Rattle.sat_solver.specs.declared.watches.Pair.{Pair}
-use Rattle.sat_solver.specs.Occurrences.{list_of}
-use Rattle.sat_solver.specs.Watches.{pair_of, IsGuard}
-use Rattle.sat_solver.specs.Looks.{IsNext, propagated, HasGuard}
+use Rattle.sat_solver.proofs.Common.{◌≡◌, ◌≢◌, ◌+◌, ◌-◌, ◌<◌, ℕ, List, Some, length, get_or, to_z, of_z, ap, sym, ◌∙◌, refl, subst, rules, arith, FitsSigned, swap_remove, w32, to_z-of_z, Known}
+use Rattle.sat_solver.proofs.Common.{known_of, Pair, list_of, pair_of, IsGuard, IsNext, propagated, HasGuard}
 use Rattle.sat_solver.proofs.Grown.{grown-refl, grown-trans}
 use Rattle.sat_solver.proofs.Kept.{known-below}
 use Rattle.sat_solver.proofs.Looking.{propagated-same, next-same, kept-removed}

@@ -1,10 +1,4 @@
-use Rattle.std.proofs.Common.{◌≡◌, ◌-◌, length}
-use Rattle.lrat_checker.specs.Tables.{known_of}
-use Rattle.sat_solver.specs.Trails.{IsGrown}
-use Rattle.sat_solver.specs.Occurrences.{list_of}
-use Rattle.sat_solver.specs.Propagators.{IsKept}
-use Rattle.sat_solver.specs.Watches.{KeepsCounted}
-use Rattle.sat_solver.specs.Looks.{propagated}
+use Rattle.sat_solver.proofs.Common.{◌≡◌, ◌-◌, length, known_of, IsGrown, list_of, IsKept, KeepsCounted, propagated}
 use Rattle.sat_solver.proofs.Due.{AreDue}
 use Rattle.sat_solver.proofs.propagator.Propagator.visit_watched.Given as goal
 

@@ -1,12 +1,5 @@
-use Rattle.std.proofs.Common.{◌≡◌, ◌≢◌, ◌<◌, ◌≤◌, ◌+◌, ◌++◌, ◌∷◌, [], ℕ, None, length, ap, sym, ◌∙◌, subst, arith}
-use Rattle.std.specs.Prelude.{All, sum_by}
-use Rattle.std.proofs.lemmas.List.{length_push}
-use Rattle.std.proofs.lemmas.List.Sums.{sum_by_push}
-use Rattle.clause_store.specs.Clauses.{Values, IsModel, AreOver}
-use Rattle.clause_store.specs.Propagation.{Known, IsQuiet}
-use Rattle.lrat_checker.specs.Tables.{known_of}
-use Rattle.sat_solver.specs.Found.{Hunt, listed_values, values_of}
-use Rattle.sat_solver.specs.Trails.{IsDone}
+use Rattle.sat_solver.proofs.Common.{◌≡◌, ◌≢◌, ◌<◌, ◌≤◌, ◌+◌, ◌++◌, ◌∷◌, [], ℕ, None, length, ap, sym, ◌∙◌, subst, arith, All, sum_by, length_push, sum_by_push, Values, IsModel, AreOver, Known}
+use Rattle.sat_solver.proofs.Common.{IsQuiet, known_of, Hunt, listed_values, values_of, IsDone}
 use Rattle.sat_solver.proofs.Hunts.{end-found, end-none}
 use Rattle.sat_solver.proofs.Models.{settled, model-by_quiet, quiet-left}
 use Rattle.sat_solver.proofs.search.Search.step.Goals as goal

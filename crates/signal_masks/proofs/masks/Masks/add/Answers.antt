@@ -1,6 +1,4 @@
-use Rattle.std.proofs.Common.{List, length, get_or, arith, ap, sym, ◌∙◌, ◌||◌, ◌&&◌, nat_eq}
-use Rattle.signal_masks.specs.declared.mask.Mask.{Mask}
-use Rattle.signal_masks.specs.Masks.{has_bit, bits_in}
+use Rattle.signal_masks.proofs.Common.{List, length, get_or, arith, ap, sym, ◌∙◌, ◌||◌, ◌&&◌, nat_eq, Mask, has_bit, bits_in}
 use Rattle.signal_masks.proofs.Sets.{bits_set, bits_push}
 use Rattle.signal_masks.proofs.masks.Masks.add.Goals as goal
 

@@ -1,5 +1,4 @@
-use Rattle.std.proofs.Common.{◌≡◌, ℕ, ◌||◌, ◌&&◌, take}
-use Rattle.signal_masks.specs.Masks.{bits_in}
+use Rattle.signal_masks.proofs.Common.{◌≡◌, ℕ, ◌||◌, ◌&&◌, take, bits_in}
 use Rattle.signal_masks.proofs.masks.Masks.add_common.Given as goal
 
 abbrev pub invariant-loop-mask : goal.invariant-loop-mask

@@ -1,7 +1,7 @@
-use Rattle.std.proofs.Common.{List, length, add-one, arith, ap, sym}
-use Rattle.signal_masks.specs.declared.mask.Mask.{Mask}
-use Rattle.signal_masks.proofs.Sets.{or_end, any_default, missing_more}
+use Rattle.signal_masks.proofs.Common.{List, length, add-one, arith, ap, sym, Mask}
+use Rattle.signal_masks.proofs.Sets.{any_default, missing_more}
 use Rattle.signal_masks.proofs.masks.Masks.add_missing.Goals as goal
+use Rattle.signal_masks.proofs.Placing.{or_end}
 
 pub loop-mask-init : goal.loop-mask-init
 loop-mask-init c = λ n i. sym (or_end _)

@@ -1,5 +1,4 @@
-use Rattle.std.proofs.Common.{◌≡◌, ℕ, ◌||◌, ◌&&◌, not, take}
-use Rattle.signal_masks.specs.Masks.{bits_in}
+use Rattle.signal_masks.proofs.Common.{◌≡◌, ℕ, ◌||◌, ◌&&◌, not, take, bits_in}
 use Rattle.signal_masks.proofs.masks.Masks.add_missing.Given as goal
 
 abbrev pub invariant-loop-mask : goal.invariant-loop-mask

@@ -1,7 +1,5 @@
-use Rattle.std.proofs.Common.{List, length, add-one, arith, sym, ap, ◌∙◌, Bool, ◌||◌, take}
-use Rattle.signal_masks.specs.Masks.{has_bit, bits_in}
+use Rattle.signal_masks.proofs.Common.{List, length, add-one, arith, sym, ap, ◌∙◌, Bool, ◌||◌, take, has_bit, bits_in, Mask}
 use Rattle.signal_masks.proofs.Bits.{has_none}
-use Rattle.signal_masks.specs.declared.mask.Mask.{Mask}
 use Rattle.signal_masks.proofs.Sets.{bits_take, any_default}
 use Rattle.signal_masks.proofs.masks.Masks.bits.Goals as goal
 

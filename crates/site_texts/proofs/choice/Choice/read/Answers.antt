@@ -1,6 +1,4 @@
-use Rattle.std.proofs.Common.{◌≡◌, ◌∙◌, ◌+◌, ℕ, arith, inl, inr, sym, subst, ⊎_elim}
-use Rattle.std.proofs.lemmas.List.{take_rest}
-use Rattle.site_texts.specs.Choices.{IsRead}
+use Rattle.site_texts.proofs.Common.{◌≡◌, ◌∙◌, ◌+◌, ℕ, arith, inl, inr, sym, subst, ⊎_elim, take_rest, IsRead}
 use Rattle.site_texts.proofs.Choosing.{IsSearched, read_whole, searched_all, searched_no_word, searched_none, searched_until}
 use Rattle.site_texts.proofs.choice.Choice.read.Goals.{in-Until, in-NoWord}
 use Rattle.site_texts.proofs.choice.Choice.read.Goals as goal

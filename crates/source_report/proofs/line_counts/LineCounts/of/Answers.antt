@@ -1,7 +1,4 @@
-use Rattle.std.proofs.Common.{◌≡◌, ◌^◌, ℕ, List, [], ◌∷◌, ◌++◌, length, slice_get, Some, Vec, Global, ap, sym, ◌∙◌, subst, inl, inr, arith, length-append}
-use Rattle.result_book.specs.Rows.{groups}
-use Rattle.source_report.specs.declared.counts.End.TheVariants.{Tag}
-use Rattle.source_report.specs.Sources.{AreCounted}
+use Rattle.source_report.proofs.Common.{◌≡◌, ◌^◌, ℕ, List, [], ◌∷◌, ◌++◌, length, slice_get, Some, Vec, Global, ap, sym, ◌∙◌, subst, inl, inr, arith, length-append, groups, Tag, AreCounted}
 use Rattle.source_report.proofs.LineCounting.{pushed-at}
 use Rattle.source_report.proofs.line_counts.LineCounts.of.Goals as goal
 

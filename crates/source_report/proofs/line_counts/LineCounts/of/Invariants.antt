@@ -1,7 +1,4 @@
-use Rattle.std.proofs.Common.{◌≡◌, ◌^◌, ℕ, length, slice_get, Some, Vec, Global}
-use Rattle.result_book.specs.Rows.{groups}
-use Rattle.source_report.specs.declared.counts.End.TheVariants.{Tag}
-use Rattle.source_report.specs.Sources.{AreCounted}
+use Rattle.source_report.proofs.Common.{◌≡◌, ◌^◌, ℕ, length, slice_get, Some, Vec, Global, groups, Tag, AreCounted}
 use Rattle.source_report.proofs.line_counts.LineCounts.of.Given as goal
 
 -- the lists so far are those of the first tags

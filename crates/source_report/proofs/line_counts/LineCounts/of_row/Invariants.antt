@@ -1,4 +1,4 @@
-use Rattle.std.proofs.Common.{◌≡◌, map, slice_index, take}
+use Rattle.source_report.proofs.Common.{◌≡◌, map, slice_index, take}
 use Rattle.source_report.proofs.line_counts.LineCounts.of_row.Given as goal
 
 -- the counts so far are those of the first lists

@@ -1,10 +1,4 @@
-use Rattle.std.proofs.Common.{◌^◌, List, length, ap, ◌∙◌}
-use Rattle.std.specs.Prelude.{IsTrue, ◌↔◌}
-use Rattle.std.proofs.lemmas.Result.{IfOk-weaker}
-use Rattle.netlist_core.specs.declared.bit.Bit.{Bit}
-use Rattle.netlist_core.specs.declared.raw.RawNetlist.{RawNetlist}
-use Rattle.step_trials.specs.Equal.{design, mutant, OneStepEqual, EqualOnAllRuns}
-use Rattle.step_trials.specs.Trials.{GivesAll}
+use Rattle.step_trials.proofs.Common.{◌^◌, List, length, ap, ◌∙◌, IsTrue, ◌↔◌, IfOk-weaker, Bit, RawNetlist, design, mutant, OneStepEqual, EqualOnAllRuns, GivesAll}
 use Rattle.step_trials.proofs.MutantTrials.{mutant-decides, free-same}
 use Rattle.step_trials.proofs.TrialLemmas.{one_step_to_all_runs}
 use Rattle.step_trials.proofs.design.Design.is_equal_to_mutant.Goals as goal

@@ -1,7 +1,4 @@
-use Rattle.std.proofs.Common.{◌≡◌, ℕ, ◌<◌, true, List, [], length, get_or, inl, inr, sym, ap, subst, ◌∙◌, arith}
-use Rattle.std.proofs.lemmas.List.{get_or_default}
-use Rattle.step_trials.specs.Equal.{design}
-use Rattle.step_trials.specs.Trials.{GivesAt}
+use Rattle.step_trials.proofs.Common.{◌≡◌, ℕ, ◌<◌, true, List, [], length, get_or, inl, inr, sym, ap, subst, ◌∙◌, arith, get_or_default, design, GivesAt}
 use Rattle.step_trials.proofs.TrialLemmas.{below_or_at, given-once}
 use Rattle.step_trials.proofs.design.Design.is_given_by.Goals as goal
 

@@ -1,6 +1,4 @@
-use Rattle.std.proofs.Common.{ℕ, [], ◌<◌, get_or}
-use Rattle.step_trials.specs.Equal.{design}
-use Rattle.step_trials.specs.Trials.{GivesAt}
+use Rattle.step_trials.proofs.Common.{ℕ, [], ◌<◌, get_or, design, GivesAt}
 use Rattle.step_trials.proofs.design.Design.is_given_by.Given as goal
 
 abbrev pub invariant-loop-number : goal.invariant-loop-number

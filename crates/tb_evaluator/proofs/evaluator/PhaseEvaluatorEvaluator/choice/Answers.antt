@@ -1,7 +1,4 @@
-use Rattle.std.proofs.Common.{map}
-use Rattle.vlog_meaning.specs.Scopes.{names_of}
-use Rattle.tb_machine.specs.Nodes.{choice_labels}
-use Rattle.tb_plans.specs.Plans.{plan_at}
+use Rattle.tb_evaluator.proofs.Common.{map, names_of, choice_labels, plan_at}
 use Rattle.tb_evaluator.proofs.Planning.{choice_plan, choice_taken}
 use Rattle.tb_evaluator.proofs.evaluator.PhaseEvaluatorEvaluator.choice.Goals as goal
 

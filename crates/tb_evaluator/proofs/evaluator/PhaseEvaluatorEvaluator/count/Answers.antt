@@ -1,6 +1,4 @@
-use Rattle.std.proofs.Common.{ap}
-use Rattle.vlog_meaning.specs.Scopes.{names_of, store_of}
-use Rattle.tb_values.specs.Values.{turns}
+use Rattle.tb_evaluator.proofs.Common.{ap, names_of, store_of, turns}
 use Rattle.tb_evaluator.proofs.Evaluating.{evaluated_in}
 use Rattle.tb_evaluator.proofs.evaluator.PhaseEvaluatorEvaluator.count.Goals as goal
 

@@ -1,6 +1,5 @@
-use Rattle.vlog_meaning.specs.Scopes.{names_of}
+use Rattle.tb_evaluator.proofs.Common.{names_of, plan_at}
 use Rattle.tb_machine.specs.declared.node.Part.TheVariants.{Itself}
-use Rattle.tb_plans.specs.Plans.{plan_at}
 use Rattle.tb_evaluator.proofs.Planning.{writing_plan}
 use Rattle.tb_evaluator.proofs.evaluator.PhaseEvaluatorEvaluator.schedule.Goals as goal
 

@@ -1,7 +1,4 @@
-use Rattle.std.proofs.Common.{ap}
-use Rattle.vlog_meaning.specs.Scopes.{names_of, store_of, Names}
-use Rattle.tb_assigns.proofs.Fitting.{all_fit}
-use Rattle.tb_evaluator.specs.Meanings.{HasSignals}
+use Rattle.tb_evaluator.proofs.Common.{ap, names_of, store_of, Names, all_fit, HasSignals}
 use Rattle.tb_evaluator.proofs.Evaluating.{still_served, updates_fit_scene}
 use Rattle.tb_evaluator.proofs.phase.PhaseEvaluator.assign_unplanned.Goals as goal
 

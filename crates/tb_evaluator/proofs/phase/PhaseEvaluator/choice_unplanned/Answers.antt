@@ -1,8 +1,4 @@
-use Rattle.std.proofs.Common.{map, ap, sym, subst}
-use Rattle.vlog_meaning.specs.Scopes.{names_of, store_of}
-use Rattle.vlog_meaning.specs.Scopes.{Names}
-use Rattle.tb_machine.specs.Nodes.{choice_labels}
-use Rattle.tb_choices.specs.Choices.{chosen, LabelsWhole}
+use Rattle.tb_evaluator.proofs.Common.{map, ap, sym, subst, names_of, store_of, Names, choice_labels, chosen, LabelsWhole}
 use Rattle.tb_evaluator.proofs.Evaluating.{evaluated_in}
 use Rattle.tb_evaluator.proofs.phase.PhaseEvaluator.choice_unplanned.Goals as goal
 

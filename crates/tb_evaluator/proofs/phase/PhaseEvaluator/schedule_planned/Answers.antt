@@ -1,7 +1,5 @@
-use Rattle.std.proofs.Common.{ap}
+use Rattle.tb_evaluator.proofs.Common.{ap, names_of, World}
 use Rattle.std.proofs.lemmas.Result.{IfOk-weaker}
-use Rattle.vlog_meaning.specs.Scopes.{names_of}
-use Rattle.tb_machine.specs.Worlds.{World}
 use Rattle.tb_evaluator.proofs.Planning.{writing_fits, planned_fit, scheduled_by_plan, still_signals}
 use Rattle.tb_evaluator.proofs.phase.PhaseEvaluator.schedule_planned.Goals as goal
 

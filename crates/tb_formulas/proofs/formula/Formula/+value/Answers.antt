@@ -1,14 +1,9 @@
-use Rattle.std.proofs.Common.{rules, ◌≡◌, ℕ, ◌+◌, ◌*◌, ◌%◌, ◌^◌, List, map, slice_index, sym, ap, ◌∙◌, arith}
-use Rattle.mcy_base.specs.declared.word.Word.{Word}
-use Rattle.vlog_meaning.specs.declared.shapes.Shape.{Shape}
-use Rattle.vlog_meaning.specs.Integers.{extended}
-use Rattle.vlog_meaning.specs.Scopes.{store_of}
-use Rattle.vlog_meaning.proofs.Contexts.{wider}
+use Rattle.tb_formulas.proofs.Common.{rules, ◌≡◌, ℕ, ◌+◌, ◌*◌, ◌%◌, ◌^◌, List, map, slice_index, sym, ap, ◌∙◌, arith, Word, Shape, extended, store_of, wider, the_lemmas}
 use Rattle.tb_formulas.specs.declared.formula.Formula.TheOpen as o
 use Rattle.tb_formulas.specs.declared.formula.Formula.TheVariants as v
-use Rattle.tb_formulas.specs.declared.formula.Formula.TheViews.{the_lemmas}
 use Rattle.tb_formulas.proofs.Layers.{opened}
-use Rattle.tb_formulas.proofs.Values.{as_long, cut_fits, window_within, unary_within, binary_within, joined_within, says_number, says_signal, says_signed, says_slice, says_select, says_number_select, says_extended, says_unary, says_binary, says_no, says_yes, says_joined, says_repeated}
+use Rattle.tb_formulas.proofs.Values.{as_long, cut_fits, window_within, unary_within, binary_within, joined_within, says_number, says_signal, says_signed, says_slice, says_select, says_number_select}
+use Rattle.tb_formulas.proofs.Values.{says_extended, says_unary, says_binary, says_no, says_yes, says_joined, says_repeated}
 use Rattle.tb_formulas.proofs.formula.Formula.+value.Goals as goal
 
 abbrev widths : List Word → List ℕ

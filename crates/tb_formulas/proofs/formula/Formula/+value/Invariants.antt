@@ -1,4 +1,4 @@
-use Rattle.std.proofs.Common.{◌+◌, ◌*◌}
+use Rattle.tb_formulas.proofs.Common.{◌+◌, ◌*◌}
 use Rattle.tb_formulas.proofs.formula.Formula.+value.Given as goal
 
 abbrev pub decreases-value : goal.decreases-value

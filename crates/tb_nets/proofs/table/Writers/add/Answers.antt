@@ -1,5 +1,4 @@
-use Rattle.tb_nets.specs.declared.table.Writer.{Writer}
-use Rattle.tb_nets.specs.Writers.{rows_of}
+use Rattle.tb_nets.proofs.Common.{Writer, rows_of}
 use Rattle.tb_nets.proofs.Tables.{pushed, pushed_on}
 use Rattle.tb_nets.proofs.table.Writers.add.Goals as goal
 

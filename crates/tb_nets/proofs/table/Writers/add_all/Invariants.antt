@@ -1,6 +1,4 @@
-use Rattle.std.proofs.Common.{◌≡◌, ℕ, ◌||◌, ◌&&◌, nat_eq, take}
-use Rattle.signal_masks.specs.Masks.{bits_in}
-use Rattle.tb_nets.specs.Writers.{rows_of, writes_in}
+use Rattle.tb_nets.proofs.Common.{◌≡◌, ℕ, ◌||◌, ◌&&◌, nat_eq, take, bits_in, rows_of, writes_in}
 use Rattle.tb_nets.proofs.table.Writers.add_all.Given as goal
 
 abbrev pub invariant-loop-mask : goal.invariant-loop-mask

@@ -1,5 +1,4 @@
-use Rattle.std.proofs.Common.{◌≡◌, ◌++◌, drop}
-use Rattle.tb_nets.specs.Writers.{sharing}
+use Rattle.tb_nets.proofs.Common.{◌≡◌, ◌++◌, drop, sharing}
 use Rattle.tb_nets.proofs.table.Writers.find.Given as goal
 
 abbrev pub invariant-loop-writer : goal.invariant-loop-writer

@@ -1,5 +1,4 @@
-use Rattle.std.proofs.Common.{◌∙◌, ap, map, []}
-use Rattle.std.specs.Prelude.{slice_index_or}
+use Rattle.tb_nets.proofs.Common.{◌∙◌, ap, map, [], slice_index_or}
 use Rattle.tb_nets.proofs.Tables.{push_room}
 use Rattle.tb_nets.proofs.table.Writers.make_room.Goals as goal
 

@@ -1,6 +1,4 @@
-use Rattle.std.proofs.Common.{◌≡◌, ℕ, ◌+◌, ◌-◌, [], vec_len}
-use Rattle.std.specs.Prelude.{slice_index_or}
-use Rattle.tb_nets.specs.Writers.{rows_of}
+use Rattle.tb_nets.proofs.Common.{◌≡◌, ℕ, ◌+◌, ◌-◌, [], vec_len, slice_index_or, rows_of}
 use Rattle.tb_nets.proofs.table.Writers.make_room.Given as goal
 
 abbrev pub invariant-loop-alloc : goal.invariant-loop-alloc

@@ -1,5 +1,4 @@
-use Rattle.std.proofs.Common.{◌≡◌, ◌++◌, drop}
-use Rattle.tb_nets.specs.Writers.{rows_of, all_sharing}
+use Rattle.tb_nets.proofs.Common.{◌≡◌, ◌++◌, drop, rows_of, all_sharing}
 use Rattle.tb_nets.proofs.table.Writers.of.Given as goal
 
 abbrev pub invariant-loop-mask : goal.invariant-loop-mask

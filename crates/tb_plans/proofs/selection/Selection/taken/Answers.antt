@@ -1,7 +1,4 @@
-use Rattle.std.proofs.Common.{map, subst, sym}
-use Rattle.std.specs.List.{All}
-use Rattle.mcy_base.specs.declared.word.Word.{Word}
-use Rattle.tb_plans.specs.Selections.{ArmFits}
+use Rattle.tb_plans.proofs.Common.{map, subst, sym, All, Word, ArmFits}
 use Rattle.tb_plans.proofs.selection.Selection.taken.Goals as goal
 
 pub first_arm-requires : goal.first_arm-requires

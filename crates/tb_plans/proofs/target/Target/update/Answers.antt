@@ -1,9 +1,4 @@
-use Rattle.std.proofs.Common.{◌≤◌, ℕ, List, map, ap, sym, ◌∙◌, subst}
-use Rattle.mcy_base.specs.declared.word.Word.{Word}
-use Rattle.vlog_meaning.specs.Scopes.{store_of}
-use Rattle.vlog_meaning.proofs.Contexts.{wider}
-use Rattle.tb_plans.specs.declared.target.Target.{Target}
-use Rattle.tb_plans.specs.Transfers.{target_updates, TargetFits}
+use Rattle.tb_plans.proofs.Common.{◌≤◌, ℕ, List, map, ap, sym, ◌∙◌, subst, Word, store_of, wider, Target, target_updates, TargetFits}
 use Rattle.tb_plans.proofs.Targets.{filled}
 use Rattle.tb_plans.proofs.target.Target.update.Goals as goal
 

@@ -1,5 +1,4 @@
-use Rattle.std.proofs.Common.{◌≡◌, ℕ, ap, ◌∙◌}
-use Rattle.tb_plans.specs.declared.target.Target.TheVariants.{Filled}
+use Rattle.tb_plans.proofs.Common.{◌≡◌, ℕ, ap, ◌∙◌, Filled}
 use Rattle.tb_plans.proofs.Copying.{copy_known, copied_is}
 use Rattle.tb_plans.proofs.transfer.Transfer.copied.Goals as goal
 

@@ -1,11 +1,5 @@
-use Rattle.std.proofs.Common.{◌≡◌, ◌+◌, List, length, ap, sym, subst, arith}
+use Rattle.tb_process.proofs.Common.{◌≡◌, ◌+◌, List, length, ap, sym, subst, arith, with_items_is, Process, IsCode, tree_of, State, Parts, Running, Follows, running}
 use Rattle.std.specs.Vec.{with_items}
-use Rattle.std.proofs.lemmas.List.{with_items_is}
-use Rattle.tb_machine.specs.declared.node.Process.{Process}
-use Rattle.tb_machine.specs.Nodes.{IsCode, tree_of}
-use Rattle.tb_machine.specs.Phases.{State}
-use Rattle.tb_bench.specs.declared.parts.Parts.{Parts}
-use Rattle.tb_process.specs.Running.{Running, Follows, running}
 use Rattle.tb_process.proofs.Following.{advanced}
 use Rattle.tb_process.proofs.run.Run.advance.Goals as goal
 

@@ -1,11 +1,5 @@
-use Rattle.std.proofs.Common.{◌≡◌, List, length, map, ap, sym, ◌∙◌, subst}
-use Rattle.std.specs.List.{All}
+use Rattle.tb_process.proofs.Common.{◌≡◌, List, length, map, ap, sym, ◌∙◌, subst, All, Plan, World, Parts, Waiting, FitsDesign, IsBelow}
 use Rattle.mcy_base.specs.declared.word.Word.{Word}
-use Rattle.netlist_core.specs.Checked.{Plan}
-use Rattle.tb_machine.specs.Worlds.{World}
-use Rattle.tb_bench.specs.declared.parts.Parts.{Parts}
-use Rattle.tb_bench.specs.declared.parts.Waiting.{Waiting}
-use Rattle.tb_bench.specs.Runnable.{FitsDesign, IsBelow}
 use Rattle.tb_process.proofs.run.Run.new.Goals as goal
 
 pub returns-clause-of : goal.returns-clause-of

@@ -1,4 +1,4 @@
-use Rattle.std.proofs.Common.{sym, subst}
+use Rattle.tb_process.proofs.Common.{sym, subst}
 use Rattle.tb_watch.specs.Searches.{HasWatched}
 use Rattle.tb_process.proofs.run.Run.phase.Goals as goal
 

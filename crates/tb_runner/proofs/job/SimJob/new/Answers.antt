@@ -1,9 +1,5 @@
-use Rattle.std.proofs.Common.{[], sym, subst}
-use Rattle.netlist_core.specs.Checked.{Plan}
-use Rattle.tb_machine.specs.Nodes.{tree_of}
+use Rattle.tb_runner.proofs.Common.{[], sym, subst, Plan, tree_of, Simulated, start, IsJob}
 use Rattle.tb_runner.specs.declared.simulation.Simulation.{Simulation}
-use Rattle.tb_runner.specs.Simulated.{Simulated, start}
-use Rattle.tb_runner.specs.Jobs.{IsJob}
 use Rattle.tb_runner.proofs.Standing.{is_simulated, starts_as_job, starts_so}
 use Rattle.tb_runner.proofs.job.SimJob.new.Goals as goal
 

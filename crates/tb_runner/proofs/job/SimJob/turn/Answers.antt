@@ -1,12 +1,5 @@
-use Rattle.std.proofs.Common.{List}
-use Rattle.vlog_syntax.specs.declared.stmt.Stmt.{Stmt}
-use Rattle.tb_machine.specs.Nodes.{IsCode}
-use Rattle.tb_watch.specs.Searches.{HasWatched}
-use Rattle.tb_turns.specs.Reached.{MeetsEnd, phases_after}
+use Rattle.tb_runner.proofs.Common.{List, Stmt, IsCode, HasWatched, MeetsEnd, phases_after, CanGoOn, Simulated, setting, start, StandsIn, IsJob}
 use Rattle.tb_turns.specs.Verdicts.{IsVerdict}
-use Rattle.tb_process.specs.Running.{CanGoOn}
-use Rattle.tb_runner.specs.Simulated.{Simulated, setting, start, StandsIn}
-use Rattle.tb_runner.specs.Jobs.{IsJob}
 use Rattle.tb_runner.proofs.Standing.{is_simulated, not_refused, told_of_each, went_on, next_job, same_simulated}
 use Rattle.tb_runner.proofs.job.SimJob.turn.Goals as goal
 

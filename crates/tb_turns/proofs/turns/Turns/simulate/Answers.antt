@@ -1,11 +1,6 @@
-use Rattle.std.proofs.Common.{◌≡◌, ℕ, ◌≤◌, List, inl, subst, arith}
-use Rattle.tb_machine.specs.Phases.{Finish, Limit}
-use Rattle.tb_machine.specs.Simulations.{outcome, phases_of}
+use Rattle.tb_turns.proofs.Common.{◌≡◌, ℕ, ◌≤◌, List, inl, subst, arith, Finish, Limit, outcome, phases_of, phases_after, IsWord, true}
 use Rattle.tb_watch.specs.Searches.{HasWatched}
-use Rattle.tb_turns.specs.Reached.{phases_after}
-use Rattle.tb_turns.specs.Verdicts.{IsWord}
 use Rattle.tb_turns.proofs.Endings.{last_within, ended_by_finish, ended_by_limit, hangs_at_the_end, hangs_in_a_phase, has_its_word, first_same, second_same}
-use Rattle.std.proofs.Common.{true}
 use Rattle.tb_turns.proofs.turns.Turns.simulate.Goals as goal
 
 pub returns-then-to-last-clause-told : goal.returns-then-to-last-clause-told

@@ -1,5 +1,4 @@
-use Rattle.std.proofs.Common.{ℕ, List, ap, ◌∙◌}
-use Rattle.tb_writers.specs.Views.{bits_of}
+use Rattle.tb_writers.proofs.Common.{ℕ, List, ap, ◌∙◌, bits_of}
 use Rattle.tb_writers.proofs.Tables.{room_more}
 use Rattle.tb_writers.proofs.table.Table.reach.Goals as goal
 

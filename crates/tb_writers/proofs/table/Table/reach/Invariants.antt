@@ -1,5 +1,4 @@
-use Rattle.std.proofs.Common.{◌≡◌, ◌+◌, ◌-◌, length}
-use Rattle.tb_writers.specs.Views.{bits_of}
+use Rattle.tb_writers.proofs.Common.{◌≡◌, ◌+◌, ◌-◌, length, bits_of}
 use Rattle.tb_writers.proofs.table.Table.reach.Given as goal
 
 abbrev pub invariant-loop-self : goal.invariant-loop-self

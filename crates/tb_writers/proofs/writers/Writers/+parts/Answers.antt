@@ -1,11 +1,4 @@
-use Rattle.std.proofs.Common.{refl, ap, ◌∙◌, add-one, arith}
-use Rattle.std.proofs.lemmas.Result.{IfOk-weaker}
-use Rattle.vlog_meaning.specs.Scopes.{names_of}
-use Rattle.vlog_effects.specs.LeftSides.{Whole, Bit, Range, Indexed, Part}
-use Rattle.process_latches.specs.Marking.{IsPart}
-use Rattle.process_latches.proofs.Fitting.{is_name, is_bit, is_range, is_indexed}
-use Rattle.tb_writers.specs.Views.{written_of}
-use Rattle.tb_writers.specs.Writes.{is_constant}
+use Rattle.tb_writers.proofs.Common.{refl, ap, ◌∙◌, add-one, arith, IfOk-weaker, names_of, Whole, Bit, Range, Indexed, Part, IsPart, is_name, is_bit, is_range, is_indexed, written_of, is_constant}
 use Rattle.tb_writers.proofs.Sums.{one_part, one_fault, joined_more, joined_faults}
 use Rattle.tb_writers.proofs.writers.Writers.+parts.Goals as goal
 

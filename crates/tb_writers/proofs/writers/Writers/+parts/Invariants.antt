@@ -1,9 +1,4 @@
-use Rattle.std.proofs.Common.{◌≡◌, map, take}
-use Rattle.vlog_meaning.specs.Scopes.{names_of}
-use Rattle.vlog_effects.specs.LeftSides.{parts_of, concatenated}
-use Rattle.tb_faults.specs.Order.{IsFirst}
-use Rattle.tb_writers.specs.Views.{written_of}
-use Rattle.tb_writers.specs.Writers.{with_parts, parts_faults}
+use Rattle.tb_writers.proofs.Common.{◌≡◌, map, take, names_of, parts_of, concatenated, IsFirst, written_of, with_parts, parts_faults}
 use Rattle.tb_writers.proofs.writers.Writers.+parts.Given as goal
 
 abbrev pub invariant-write_joined-loop-left : goal.invariant-write_joined-loop-left

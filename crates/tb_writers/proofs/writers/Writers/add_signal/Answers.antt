@@ -1,9 +1,4 @@
-use Rattle.std.proofs.Common.{ap, ◌∙◌}
-use Rattle.std.proofs.lemmas.Result.{IfOk-weaker}
-use Rattle.vlog_meaning.specs.Senses.{Bits}
-use Rattle.tb_writers.specs.declared.writers.Writer.TheVariants.{Net}
-use Rattle.tb_writers.specs.Views.{written_of}
-use Rattle.tb_writers.specs.Writers.{with_bits}
+use Rattle.tb_writers.proofs.Common.{ap, ◌∙◌, IfOk-weaker, Bits, Net, written_of, with_bits}
 use Rattle.tb_writers.proofs.Tables.{whole_mask}
 use Rattle.tb_writers.proofs.writers.Writers.add_signal.Goals as goal
 

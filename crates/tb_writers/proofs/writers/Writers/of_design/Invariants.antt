@@ -1,6 +1,4 @@
-use Rattle.std.proofs.Common.{◌≡◌, drop}
-use Rattle.tb_writers.specs.Views.{written_of}
-use Rattle.tb_writers.specs.Writers.{nothing, with_outputs}
+use Rattle.tb_writers.proofs.Common.{◌≡◌, drop, written_of, nothing, with_outputs}
 use Rattle.tb_writers.proofs.writers.Writers.of_design.Given as goal
 
 abbrev pub invariant-loop-number : goal.invariant-loop-number

@@ -1,6 +1,5 @@
-use Rattle.std.proofs.Common.{ℕ, ◌||◌, slice_index_or, ap, ◌∙◌}
-use Rattle.signal_masks.specs.Masks.{has_bit}
-use Rattle.tb_writers.proofs.Tables.{has_or}
+use Rattle.tb_writers.proofs.Common.{ℕ, ◌||◌, slice_index_or, ap, ◌∙◌, has_bit}
+use Rattle.signal_masks.proofs.Bits.{has_or}
 use Rattle.tb_writers.proofs.writers.Writers.taken.Goals as goal
 
 pub returns-in-Net : goal.returns-in-Net

@@ -1,10 +1,4 @@
-use Rattle.std.proofs.Common.{ap, subst, ◌∙◌, add-one, arith}
-use Rattle.vlog_syntax.specs.declared.left_side.LeftSide.{LeftSide}
-use Rattle.vlog_meaning.specs.Scopes.{names_of}
-use Rattle.vlog_effects.specs.LeftSides.{parts_of}
-use Rattle.tb_faults.specs.Order.{IsFirst}
-use Rattle.tb_writers.specs.Views.{written_of}
-use Rattle.tb_writers.specs.Writers.{with_parts, parts_faults}
+use Rattle.tb_writers.proofs.Common.{ap, subst, ◌∙◌, add-one, arith, LeftSide, names_of, parts_of, IsFirst, written_of, with_parts, parts_faults}
 use Rattle.tb_writers.proofs.Sums.{lefts_more, first_more}
 use Rattle.tb_writers.proofs.writers.Writers.write_lefts.Goals as goal
 

@@ -1,8 +1,4 @@
-use Rattle.std.proofs.Common.{◌≡◌, take}
-use Rattle.vlog_meaning.specs.Scopes.{names_of}
-use Rattle.tb_faults.specs.Order.{IsFirst}
-use Rattle.tb_writers.specs.Views.{written_of}
-use Rattle.tb_writers.specs.Writers.{with_lefts, lefts_faults}
+use Rattle.tb_writers.proofs.Common.{◌≡◌, take, names_of, IsFirst, written_of, with_lefts, lefts_faults}
 use Rattle.tb_writers.proofs.writers.Writers.write_lefts.Given as goal
 
 abbrev pub invariant-loop-left : goal.invariant-loop-left

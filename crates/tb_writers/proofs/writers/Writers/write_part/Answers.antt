@@ -1,10 +1,4 @@
-use Rattle.std.proofs.Common.{ap, ◌∙◌}
-use Rattle.std.specs.Prelude.{Some}
-use Rattle.vlog_meaning.specs.declared.scope.Decl.{Decl}
-use Rattle.std.proofs.lemmas.Result.{IfOk-weaker}
-use Rattle.vlog_meaning.specs.Scopes.{names_of}
-use Rattle.signal_masks.specs.Masks.{bits_in}
-use Rattle.tb_writers.specs.Views.{written_of}
+use Rattle.tb_writers.proofs.Common.{ap, ◌∙◌, Some, Decl, IfOk-weaker, names_of, bits_in, written_of}
 use Rattle.tb_writers.proofs.Parts.{part_written, part_refused}
 use Rattle.tb_writers.proofs.writers.Writers.write_part.Goals as goal
 

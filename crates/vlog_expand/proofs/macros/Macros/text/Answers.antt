@@ -1,4 +1,4 @@
-use Rattle.std.proofs.Common.{ap, sym, ◌∙◌, option_map}
+use Rattle.vlog_expand.proofs.Common.{ap, sym, ◌∙◌, option_map}
 use Rattle.vlog_expand.proofs.Defining.{definitions-read}
 use Rattle.vlog_expand.proofs.macros.Macros.text.Goals as goal
 

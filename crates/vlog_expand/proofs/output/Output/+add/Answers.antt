@@ -1,7 +1,4 @@
-use Rattle.std.proofs.Common.{length, arith, ◌≡◌, ◌<◌, false, inr, sym, Some, None}
-use Rattle.std.proofs.lemmas.Result.{err_from_is_err_and}
-use Rattle.vlog_expand.specs.Definitions.{definitions_of}
-use Rattle.vlog_expand.specs.Words.{is_use, name_of, word_of}
+use Rattle.vlog_expand.proofs.Common.{length, arith, ◌≡◌, ◌<◌, false, inr, sym, Some, None, err_from_is_err_and, definitions_of, is_use, name_of, word_of}
 use Rattle.vlog_expand.proofs.Using.{expanded-given, expanded-deep, expanded-unknown, expanded-full, text-refused, text-given}
 use Rattle.vlog_expand.proofs.output.Output.+add.Goals as goal
 

@@ -1,6 +1,4 @@
-use Rattle.std.proofs.Common.{◌≡◌, ◌-◌, drop}
-use Rattle.vlog_expand.specs.Definitions.{definitions_of}
-use Rattle.vlog_expand.specs.Uses.{behind, expanded, in_order}
+use Rattle.vlog_expand.proofs.Common.{◌≡◌, ◌-◌, drop, definitions_of, behind, expanded, in_order}
 use Rattle.vlog_expand.proofs.output.Output.+add.Given as goal
 
 abbrev pub decreases-add : goal.decreases-add

@@ -1,4 +1,4 @@
-use Rattle.std.proofs.Common.{◌∙◌}
+use Rattle.vlog_meaning.proofs.Common.{◌∙◌}
 use Rattle.vlog_meaning.proofs.Lookups.{cloned}
 use Rattle.vlog_meaning.proofs.scope.Scope.copy.Goals as goal
 

@@ -1,6 +1,5 @@
-use Rattle.std.proofs.Common.{◌≡◌, ◌∙◌, Some, true, false, sym, refl}
-use Rattle.std.specs.Prelude.{is_some}
-use Rattle.vlog_meaning.specs.Scopes.{names_of}
+use Rattle.vlog_meaning.proofs.Common.{◌≡◌, ◌∙◌, true, false, sym, refl, is_some, names_of}
+use Rattle.std.proofs.Common.{Some}
 use Rattle.vlog_meaning.proofs.Lookups.{is_there, updated_at}
 use Rattle.vlog_meaning.proofs.scope.Scope.declare.Goals.{in-Ok-insert, in-Err}
 use Rattle.vlog_meaning.proofs.scope.Scope.declare.Goals as goal

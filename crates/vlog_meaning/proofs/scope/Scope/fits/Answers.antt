@@ -1,8 +1,7 @@
-use Rattle.std.proofs.Common.{◌∙◌, sym, rules, tests}
+use Rattle.vlog_meaning.proofs.Common.{◌∙◌, sym, rules, tests, fits_word}
 use Rattle.std.specs.BTreeMap.{values}
 use Rattle.std.proofs.lemmas.Iterator.Consumers.{YieldsList-from_rest}
 use Rattle.std.proofs.lemmas.Iterator.Search.{all_from_yields_List}
-use Rattle.vlog_meaning.specs.Fitting.{fits_word}
 use Rattle.vlog_meaning.proofs.Lookups.{all_fit, all_values}
 use Rattle.vlog_meaning.proofs.scope.Scope.fits.Goals as goal
 

@@ -1,6 +1,5 @@
-use Rattle.std.proofs.Common.{◌≡◌, ◌∙◌, None, Some, true, false, sym, ap}
-use Rattle.std.specs.Prelude.{is_some}
-use Rattle.vlog_meaning.specs.Scopes.{names_of}
+use Rattle.vlog_meaning.proofs.Common.{◌≡◌, ◌∙◌, true, false, sym, ap, is_some, names_of}
+use Rattle.std.proofs.Common.{None, Some}
 use Rattle.vlog_meaning.proofs.Lookups.{looked_up, updated}
 use Rattle.vlog_meaning.proofs.scope.Scope.replace.Goals.{in-Some, in-None}
 use Rattle.vlog_meaning.proofs.scope.Scope.replace.Goals as goal

@@ -1,5 +1,0 @@
-use Rattle.vlog_meaning.proofs.Refusals.{least_empty}
-use Rattle.elab_proc.proofs.cases.all_wrong_in.Goals as goal
-
-pub loop-expr-init : goal.loop-expr-init
-loop-expr-init c = least_empty

@@ -1,0 +1,4 @@
+pub mod Cases
+pub mod Expressions
+pub mod Features
+pub mod Order
